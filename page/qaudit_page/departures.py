@@ -58,7 +58,7 @@ def greatest(said: Object) -> str:
 
 def section_of(verdict: Verdict, basis: Basis, unit: str) -> str:
     """The table of all departures and how the trace ends past them, with what it rests on where
-    that is accepted; empty where there are none."""
+    that is accepted, folded to a line; empty where there are none."""
     kinds = departures_of(verdict)
     if not kinds:
         return ""
@@ -67,10 +67,9 @@ def section_of(verdict: Verdict, basis: Basis, unit: str) -> str:
     rows = "".join(map(row_of, kinds))
     rest = folded(basis.grounds, "What it rests on") if basis.grounds else ""
     return (
-        '<section id="departures"><h2>All violations <small>the audit continues after each'
-        f"</small></h2><p>{sentence_of(verdict, basis, kinds)}</p>"
-        f"{rest}{end_of(verdict.end, unit)}"
-        f"<table><thead><tr>{head}</tr></thead><tbody>{rows}</tbody></table></section>"
+        f'<details id="departures"><summary>{sentence_of(verdict, basis, kinds)}</summary>'
+        f"{end_of(verdict.end, unit)}{rest}"
+        f"<table><thead><tr>{head}</tr></thead><tbody>{rows}</tbody></table></details>"
     )
 
 
@@ -88,13 +87,16 @@ def sentence_of(verdict: Verdict, basis: Basis, kinds: Iterable[Departures]) -> 
     line = link(end.line, f"line {count(end.line)}")
     ends = "is refused" if end.kind == "refused" else "cannot be read"
     what = f"{html(end.rule)} {html(end.name)}"
-    return f"{begins} After that the trace {ends} at {line}: <b>{what}.</b> {meaning_of(end.rule)}"
+    return f"{begins} After that the trace {ends} at {line}: <b>{what}.</b>"
 
 
 def end_of(end: Verdict, unit: str) -> str:
-    """The amounts that decide of how a trace ends past departures."""
-    facts = [] if end.kind == "accepted" else facts_of(end.said, unit)
-    return f'<dl class="facts">{pairs(facts)}</dl>' if facts else ""
+    """What the rule says by which a trace ends past departures, and the amounts that decide."""
+    if end.kind == "accepted":
+        return ""
+    facts = facts_of(end.said, unit)
+    told = f'<dl class="facts">{pairs(facts)}</dl>' if facts else ""
+    return f"<p>{meaning_of(end.rule)}</p>{told}"
 
 
 def row_of(kind: Departures) -> str:

@@ -38,7 +38,7 @@ def resource(name: str) -> str:
 
 
 # The parts of the script of a page, in the order in which they are joined.
-MODULES = ("data", "shapes", "view", "packets", "state", "table", "controls", "start")
+MODULES = ("data", "shapes", "view", "packets", "state", "strip", "table", "controls", "start")
 
 
 def script() -> str:

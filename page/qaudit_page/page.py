@@ -21,8 +21,9 @@ from .library import dygraphs, licence, resource, script
 from .payload import Part, packed, part_of, payload, shown, text_of
 from .program import PAST, STRICT, Mode, Run, UnknownOptionError, Verdict, find, verdict_by
 from .rows import rows_by
+from .silences import section_of as silences_of
 from .texts import count, html, milliseconds, pairs, plural
-from .timers import are_short, longest_silence
+from .timers import Silence, are_short, longest_silences
 from .trace import Trace, trace_of
 
 # Of the line of the verdict, as many characters stand above the diagrams.
@@ -111,15 +112,16 @@ def without_collector() -> Iterator[None]:
 
 def written(wanted: Wanted, library: str, trace: Trace, verdict: Verdict, part: Part) -> Made:
     """The whole page."""
+    basis, silences = basis_by(trace, verdict), longest_silences(trace, verdict.first_unjudged)
+    silence = silences[0] if silences else None
+    opens = opening_of(verdict, basis, silence, trace)
     with ThreadPoolExecutor() as pool:
         lines = pool.submit(lambda: packed(text_of(trace, part)))
-        columns = json.dumps(payload(trace, verdict, part), separators=(",", ":"))
-        data = packed(columns)
+        columns = payload(trace, verdict, part) | {"opens": opens}
+        data = packed(json.dumps(columns, separators=(",", ":")))
         text = lines.result()
     style, own, loader = resource("page.css"), script(), resource("script/load.js")
-    basis = basis_by(trace, verdict)
     kind, notes = kind_of(verdict, basis), notes_of(trace.lines, verdict)
-    silence = longest_silence(trace, verdict.first_unjudged)
     page = filled(
         resource("page.html"),
         POLICY=policy([loader, library, own], [style]),
@@ -133,6 +135,7 @@ def written(wanted: Wanted, library: str, trace: Trace, verdict: Verdict, part: 
         CONVERTED="".join(f'<p class="note">{html(note)}</p>' for note in notes),
         QUOTE=quote(trace, verdict),
         DEPARTURES=section_of(verdict, basis, trace.unit),
+        SILENCES=silences_of(silences, trace),
         OVERVIEW=pairs(overview(wanted, trace, verdict, part)),
         OPTIONS=pairs(options(trace)),
         LICENCE=html_of_lines(licence()),
@@ -145,6 +148,24 @@ def written(wanted: Wanted, library: str, trace: Trace, verdict: Verdict, part: 
     return Made(page, verdict, basis, notes)
 
 
+def opening_of(verdict: Verdict, basis: Basis, silence: Silence | None, trace: Trace) -> int:
+    """The line about which a page opens; 0 for the whole run, where nothing is said against it.
+
+    An accepted trace whose verdict rests on something opens about the end of its longest silence,
+    if most of that was past its deadline, and else about the first line after the header on which
+    the verdict rests.
+    """
+    if verdict.kind != "accepted":
+        return verdict.line
+    if not basis.is_amber:
+        return 0
+    header = trace.state.line[0] if trace.state.line else 0
+    lines = [it.line for it in basis.grounds if it.line > header]
+    if silence and (silence.over * 2 > silence.long or not lines):
+        return silence.line
+    return lines[0] if lines else 0
+
+
 def filled(template: str, **parts: str) -> str:
     """A template with each of its places filled; what is put in is not looked at again."""
     pieces = template.split("@@")
@@ -154,11 +175,10 @@ def filled(template: str, **parts: str) -> str:
 
 
 def policy(scripts: list[str], styles: list[str]) -> str:
-    """A policy by which the page runs these texts and fetches nothing. The range selector of
-    dygraphs has a picture as an address of its own data."""
+    """A policy by which the page runs these texts and fetches nothing."""
     return (
         f"default-src 'none'; script-src {' '.join(map(hashed, scripts))};"
-        f" style-src {' '.join(map(hashed, styles))}; img-src data:;"
+        f" style-src {' '.join(map(hashed, styles))};"
         " base-uri 'none'; form-action 'none'"
     )
 
@@ -191,7 +211,9 @@ def overview(wanted: Wanted, trace: Trace, verdict: Verdict, part: Part) -> Fact
     ]
     packets = trace.packets
     judged = trace.state.line
-    told = [("file", name_of(wanted.trace)), ("lines", count(len(trace.lines)))]
+    file = name_of(wanted.trace)
+    told = [("file", file)] if file != wanted.name else []
+    told.append(("lines", count(len(trace.lines))))
     if verdict.end.kind != "accepted" and judged:
         told.append(("judged", f"up to line {count(judged[-1])}"))
     span = max(drawn) - min(drawn) if drawn else 0

@@ -2,6 +2,7 @@
 
 from collections.abc import Iterator
 from dataclasses import dataclass
+from heapq import heappop, heappush
 from itertools import accumulate
 from typing import NamedTuple
 
@@ -15,6 +16,7 @@ from .trace import BLANK, ELICITING, KINDS, OTHER, Trace
 TIMELESS = frozenset(map(ord, (KINDS["header"], BLANK, OTHER)))
 REPORT = ord(KINDS["metrics"])
 APP = SPACES.index("app")
+MOST_SILENCES = 10
 
 
 @dataclass(frozen=True)
@@ -38,6 +40,25 @@ class Silence:
             return f"{flying}, no timer was set"
         over = f"{span(self.over, unit)} past the" if self.over else "not past the"
         return f"{flying}, {over} {name_of(self.timer)}"
+
+
+class Longest:
+    """The longest silences so far, and the one that goes on."""
+
+    def __init__(self) -> None:
+        self.kept: list[tuple[int, int, Silence]] = []
+        self.current: Silence | None = None
+        # What is not longer than this is not kept.
+        self.least = 0
+
+    def keep(self) -> None:
+        """Keeps the one that went on, if there is one."""
+        if self.current is not None:
+            heappush(self.kept, (self.current.long, -self.current.line, self.current))
+        if len(self.kept) > MOST_SILENCES:
+            heappop(self.kept)
+        self.current = None
+        self.least = self.kept[0][0] if len(self.kept) == MOST_SILENCES else 0
 
 
 class Late(NamedTuple):
@@ -72,11 +93,12 @@ class Clock:
         return 0 if deadline is None else max(0, time - max(deadline, self.since))
 
 
-def longest_silence(trace: Trace, unjudged: int | None) -> Silence | None:
-    """The longest silence, the first of such. The first line that was not judged may end one."""
+def longest_silences(trace: Trace, unjudged: int | None) -> list[Silence]:
+    """The longest silences, of those that are equally long the first. One that went on past a
+    report is one. The first line that was not judged may end one."""
     state, clock, lines = trace.state, Clock(), [*trace.state.line]
     deadlines, flying = state.amounts["deadline"], state.amounts["in_flight"]
-    found: Silence | None = None
+    longest = Longest()
     begin, in_flight = 0, 0
     if unjudged is not None and unjudged <= len(trace.lines):
         lines.append(unjudged)
@@ -85,12 +107,15 @@ def longest_silence(trace: Trace, unjudged: int | None) -> Silence | None:
             continue
         time, timer = trace.time[line - 1], clock.set_for[0]
         long = time - begin
-        if (in_flight or timer != NO_SPACE) and long > (found.long if found else 0):
-            found = Silence(line, long, in_flight, timer, clock.late_by(time))
+        if (in_flight or timer != NO_SPACE) and long > longest.least:
+            longest.current = Silence(line, long, in_flight, timer, clock.late_by(time))
+            longest.least = long
         if row < len(state.line) and trace.kind[line - 1] != REPORT:
+            longest.keep()
             clock.after(state.timer[row], deadlines[row], time)
             begin, in_flight = time, flying[row] or 0
-    return found
+    longest.keep()
+    return [silence for _, _, silence in sorted(longest.kept, reverse=True)]
 
 
 def late_timers(trace: Trace) -> Iterator[Late]:

@@ -31,7 +31,9 @@ class Scale:
         )
         browser.settled()
         self.browser = browser
-        self.x = line_through([(number(text), x) for text, x, _ in browser.run(LABELS, chart, "x")])
+        # The lane of the headroom has the axis of the diagram above it.
+        above = "window" if chart == "headroom" else chart
+        self.x = line_through([(number(text), x) for text, x, _ in browser.run(LABELS, above, "x")])
         labels = [(number(text), y) for text, _, y in browser.run(LABELS, chart, "y")]
         self.y = line_through(first_lane(labels) if is_of_lanes else labels)
 

@@ -19,11 +19,11 @@ from qaudit_page.banner import banner
 from qaudit_page.failure import Failure
 from qaudit_page.grounds import Basis, basis_of
 from qaudit_page.lenient import SPACES
-from qaudit_page.page import basis_by
+from qaudit_page.page import basis_by, opening_of
 from qaudit_page.program import Object, Verdict
 from qaudit_page.rows import OF_LOSS
 from qaudit_page.texts import span
-from qaudit_page.timers import late_timers, longest_silence
+from qaudit_page.timers import Silence, late_timers, longest_silences
 from qaudit_page.trace import Trace
 
 REAL = TRACES.parent / "real" / "traces"
@@ -362,6 +362,45 @@ class Words(unittest.TestCase):
             banner(Verdict(known | {"last": {"time_us": 0}}), Basis(), None, "us")
 
 
+def longest_silence(trace: Trace, unjudged: int | None) -> Silence | None:
+    """The longest silence."""
+    return next(iter(longest_silences(trace, unjudged)), None)
+
+
+class Opening(unittest.TestCase):
+    """The line about which a page opens."""
+
+    def opens(self, data: bytes, report: str | None = None) -> int:
+        """That line; 0 for the whole run."""
+        found: int = Page(made(data, report)).data()["opens"]
+        return found
+
+    def test_what_is_refused_or_cannot_be_read(self) -> None:
+        for name, line in (("several-departures", 13), ("no-event", 2)):
+            path = TRACES / f"{name}.trace"
+            self.assertEqual(self.opens(path.read_bytes(), report_of(path)), line)
+
+    def test_green(self) -> None:
+        self.assertEqual(self.opens(joined(*TIMED, ack(70_000))), 0)
+
+    def test_a_silence_that_was_mostly_past_its_deadline(self) -> None:
+        self.assertEqual(self.opens(joined(*TIMED, ack(6_000_000))), 4)
+
+    def test_the_first_ground_after_the_header(self) -> None:
+        path = REAL / "curl-8.23-ngtcp2-loss.trace"
+        self.assertEqual(self.opens(path.read_bytes(), report_of(path)), 43)
+        # The header has no event: what it chooses leads to the longest silence.
+        header = TIMED[0].replace('"version":1', '"version":3,"sample_eliciting_only":true')
+        self.assertEqual(self.opens(joined(header, *TIMED[1:], ack(70_000))), 4)
+
+    def test_an_older_program(self) -> None:
+        trace, verdict = seen(joined(*TIMED, ack(70_000)))
+        old = Verdict({"verdict": "accepted"})
+        silence = longest_silence(trace, verdict.first_unjudged)
+        self.assertEqual(opening_of(old, basis_by(trace, old), silence, trace), 4)
+        self.assertEqual(opening_of(old, basis_by(trace, old), None, trace), 0)
+
+
 class Timers(unittest.TestCase):
     """Silences and late timers, against the second machine."""
 
@@ -406,6 +445,24 @@ class Timers(unittest.TestCase):
         )
         found, verdict = seen(joined(header, *packets, *trace))
         self.assertEqual((verdict.kind, [*late_timers(found)]), ("accepted", []))
+
+    def test_the_longest_are_listed(self) -> None:
+        """Twelve packets, each acknowledged 10 ms later than the one before: ten are listed."""
+        lines, time = [], 0
+        for number in range(1, 13):
+            lines += [sent(number, time), f'{{"event":"metrics","time":{time + 1}}}']
+            time += 1_000 + 1_000 * number
+            lines.append(acked(time, (number, number)))
+        data = joined(*TIMED[:2], *lines)
+        trace, _ = seen(data)
+        found = longest_silences(trace, None)
+        self.assertEqual([it.long for it in found], [1_000 * n for n in range(13, 3, -1)])
+        self.assertEqual([it.line for it in found], [3 * n + 2 for n in range(12, 2, -1)])
+        page = Page(made(data))
+        told = " ".join(page.by_id["silences"].split())
+        self.assertIn("13 ms, 1,200 B in flight, not past the probe timeout of app, until", told)
+        self.assertIn("until line 38 (ack)", told)
+        self.assertNotIn("silences", Page(made(joined(HEADER, sent(0)))).by_id)
 
     def test_a_report_ends_no_silence(self) -> None:
         reports = [f'{{"event":"metrics","time":{at}}}' for at in (1_000_000, 3_000_000)]

@@ -172,6 +172,7 @@ class Using(Browsing):
         self.assertEqual(self.selected(), 83)
         self.assertTrue(self.browser.run("return location.hash") == "#line=83")
         self.assertIn("Line 83, lost", self.text("#said"))
+        self.key("0")
         whole = self.view()
         self.key("+")
         near = self.view()
@@ -198,6 +199,7 @@ class Using(Browsing):
 
     def test_a_click_selects_and_a_drag_zooms_or_pans(self) -> None:
         self.show(self.page)
+        self.key("0")
         left, top, width, height = self.box("#chart-window")
         x, y = left + width / 2, top + height / 2
         self.mouse("mouseMoved", x, y, button="none")
@@ -254,14 +256,6 @@ class Using(Browsing):
         self.browser.settled()
         pinched = self.view()
         self.assertAlmostEqual((pinched[1] - pinched[0]) / (panned[1] - panned[0]), 0.5, delta=0.1)
-
-    def test_the_range_selector_moves_all(self) -> None:
-        self.show(self.page)
-        left, top, width, height = self.box(".dygraph-rangesel-zoomhandle")
-        before = self.view()
-        self.drag(left + width / 2, top + height / 2, 300)
-        self.assertGreater(self.view()[0], before[0])
-        self.assertAlmostEqual(self.view()[1], before[1], places=6)
 
     def find(self, text: str) -> None:
         """Looks for something."""
@@ -467,6 +461,7 @@ class Past(Browsing):
         """The diagrams go on past the departure, in colour."""
         self.show(made(joined(*SMALL)))
         self.key("Home")
+        self.key("0")
         at = Scale(self.browser, "window")
         self.assertTrue(at.has(200, 7_200, "refused"), "the cross at what departs")
         self.assertTrue(at.has(280, 6_000, "app"), "the window behind it")
@@ -480,6 +475,7 @@ class Past(Browsing):
         data = joined(HEADER, *(sent(n) for n in range(10)), sent(10, 50_000), sent(11, 100_000))
         self.show(made(data + joined(sent(12, 200_000, size=1, more=""))))
         self.key("Home")
+        self.key("0")
         at = Scale(self.browser, "window")
         for time, flying in ((50, 13_200), (100, 14_400), (200, 14_401)):
             self.assertTrue(at.has(time, flying, "refused"), f"the cross at {time} ms")
@@ -492,6 +488,7 @@ class Past(Browsing):
         many = (sent(10 + n, 1000 * n) for n in range(100))
         self.show(made(joined(HEADER, *(sent(n) for n in range(10)), *many)))
         self.key("Home")
+        self.key("0")
         at = Scale(self.browser, "window")
         self.assertTrue(at.has(50, 1_000, "refused"))
         self.assertFalse(at.has(50, 30_000, "refused"))
@@ -517,10 +514,7 @@ class Harm(Browsing):
         )
         self.assertIsNone(self.browser.run("return window.pwned ?? null"))
         self.assertEqual(
-            self.browser.run(
-                "return document.querySelectorAll("
-                "'img:not(.dygraph-rangesel-zoomhandle), svg, iframe').length"
-            ),
+            self.browser.run("return document.querySelectorAll('img, svg, iframe').length"),
             0,
         )
         # Four blocks, what unpacks two of them, and these two.
@@ -652,6 +646,7 @@ class Marks(Browsing):
     def deselected(self) -> None:
         """Selects a line away from what is looked at."""
         self.key("Home")
+        self.key("0")
 
     def test_window(self) -> None:
         self.show(self.page)
@@ -665,6 +660,35 @@ class Marks(Browsing):
         self.assertTrue(at.has(200, 7_200, "refused"), "the cross at what is refused")
         self.assertFalse(at.has(180, 7_200, "refused"))
         self.assertFalse(at.has(280, 6_000, "app"), "no state behind the verdict")
+
+    def test_headroom(self) -> None:
+        self.show(self.page)
+        self.deselected()
+        at = Scale(self.browser, "headroom")
+        self.assertTrue(at.has(160, 2_400, "flight"), "three packets in a window of 6,000")
+        self.assertTrue(at.has(200, -1_200, "refused"), "the packet that has no room")
+        self.assertFalse(at.has(180, -1_200, "refused"))
+        self.show(made(joined(*SMALL)))
+        self.deselected()
+        at = Scale(self.browser, "headroom")
+        self.assertTrue(at.has(250, -700, "refused"), "past the window until the acknowledgment")
+        self.assertFalse(at.has(305, -700, "refused"))
+
+    def test_the_axis_fits_what_is_seen(self) -> None:
+        """The next report, out of sight, has 54,598 bytes, and the window is 40,064."""
+        path = TRACES.parent / "real" / "traces" / "quic-go-past-window.trace"
+        self.show(made(path.read_bytes(), report_of(path)), "#line=93")
+        for _ in range(8):
+            self.key("+")
+        labels = (
+            "return [...document.querySelectorAll('#chart-window .dygraph-axis-label-y')]"
+            "  .map(it => Number(it.textContent.replaceAll(',', '')))"
+        )
+        found = self.browser.run(labels)
+        self.assertGreater(min(found), 30_000)
+        self.assertLess(max(found), 50_000)
+        self.key("0")
+        self.assertEqual(min(self.browser.run(labels)), 0)
 
     def test_packets(self) -> None:
         self.show(self.page)
@@ -753,6 +777,7 @@ class WrongPages(Browsing):
 
         self.show(self.changed(change))
         self.key("Home")
+        self.key("0")
         self.assertTrue(Scale(self.browser, "window").has(280, 6_000, "app"))
 
     def test_a_row_shifted_by_one(self) -> None:
@@ -764,6 +789,7 @@ class WrongPages(Browsing):
 
         self.show(self.changed(change))
         self.key("Home")
+        self.key("0")
         self.assertTrue(Scale(self.browser, "window").has(101, 12_000, "app"))
 
     def test_a_departure_that_is_not_marked(self) -> None:
@@ -777,6 +803,7 @@ class WrongPages(Browsing):
         ):
             self.show(page)
             self.key("Home")
+            self.key("0")
             self.assertEqual(Scale(self.browser, "window").has(100, 14_400, "refused"), is_marked)
 
     def test_a_trace_that_ends_at_another_line(self) -> None:
@@ -785,6 +812,7 @@ class WrongPages(Browsing):
 
         self.show(self.changed(change, is_strict=False))
         self.key("Home")
+        self.key("0")
         self.assertFalse(Scale(self.browser, "packets-app").has(310, 9, "app"))
 
     def test_a_packet_at_another_number(self) -> None:
@@ -793,6 +821,7 @@ class WrongPages(Browsing):
 
         self.show(self.changed(change))
         self.key("Home")
+        self.key("0")
         self.assertFalse(Scale(self.browser, "packets-app").has(10, 1, "app"))
 
 

@@ -61,6 +61,7 @@ class Banners(Browsing):
 
     def test_links_go_to_the_lines(self) -> None:
         self.show(corpus("curl-8.23-ngtcp2-loss", REAL))
+        self.key("0")
         whole = self.view()
         links = "return [...document.querySelectorAll('.verdict a')].map(it => it.hash)"
         hashes = self.browser.run(links)

@@ -203,8 +203,8 @@ class Departures(unittest.TestCase):
             ],
         )
         links = [found["href"] for tag, found in page.tags if tag == "a"]
-        # The verdict, the longest silence, and the table.
-        self.assertEqual(links, [f"#line={line}" for line in (13, 24, 13, 15, 17, 22, 24)])
+        # The verdict, the longest silence, and the table; then come the silences.
+        self.assertEqual(links[:7], [f"#line={line}" for line in (13, 24, 13, 15, 17, 22, 24)])
         told_of_all = " ".join(page.by_id["departures"].split())
         self.assertIn("The sender breaks rules 5 times in 22 events.", told_of_all)
         self.assertIn("Everything else in the trace follows RFC 9002.", told_of_all)
@@ -257,7 +257,8 @@ class Departures(unittest.TestCase):
         rows = {row[0]: row for row in page.rows()}
         self.assertEqual(rows["V16 metric window"][2], "833")
         self.assertEqual(len(rows["V16 metric window"][4].split()), 833)
-        self.assertEqual(page.texts["summary"][:3], ["73 more", "821 more", "821 more"])
+        more = [text for text in page.texts["summary"] if text.endswith(" more")]
+        self.assertEqual(more[:3], ["73 more", "821 more", "821 more"])
 
     def test_of_more_than_a_thousand_the_first_are_named(self) -> None:
         data = joined(HEADER, *(sent(n) for n in range(1015)))

@@ -31,22 +31,24 @@ function followAddress() {
   return place >= 0;
 }
 
+// The same for a link of the page; the diagrams come into sight if they are below.
+function followLink() {
+  const isBelow = byId('chart-packets').getBoundingClientRect().top > innerHeight - 100;
+  if (followAddress() && isBelow) byId('main').scrollIntoView();
+}
+
 function changeAxis(event) {
   const isWhole = view.from <= view.low && view.to >= view.high;
   const first = placeAt(view.from), last = Math.max(first, placeAt(view.to) - 1);
   view.byLine = event.target.value === 'line';
   setAxis();
-  isDrawing = true;
-  const options = {xlabel: nameOfAxis()};
-  charts.packets.updateOptions({...options, file: progress(), dateWindow: [view.low, view.high]});
-  charts.window.updateOptions(options, true);
-  charts.rtt.updateOptions(options, true);
-  isDrawing = false;
+  charts.packets.updateOptions({file: ends(), dateWindow: [view.low, view.high]}, true);
+  charts.rtt.updateOptions({xlabel: nameOfAxis()}, true);
   if (isWhole) showAll();
   else showAround(first, last, 0);
 }
 
-const toVerdict = () => trace.verdictAt >= 0 && select(trace.verdictAt, {zooms: true});
+const toVerdict = () => trace.opensAt >= 0 && select(trace.opensAt, {zooms: true});
 
 // Selects the next line that departs, or the one before.
 function toDeparture(by) {
@@ -93,14 +95,20 @@ function addControls() {
   byId('find').addEventListener('keydown', event =>
     event.key === 'Enter' && find(event.target.value));
   addEventListener('keydown', onKey);
-  addEventListener('hashchange', followAddress);
+  addEventListener('hashchange', followLink);
+  // A link to the line that is in the address leads there again.
+  addEventListener('click', event => {
+    const link = event.target.closest('a[href^="#line="]');
+    if (link && link.hash === location.hash) followLink();
+  });
   addEventListener('resize', redraw);
   byId('departures-bar').hidden = !trace.departed.size;
-  byId('to-verdict').hidden = trace.verdictAt < 0;
-  byId('to-verdict').textContent = `Go to line ${trace.verdict.line}`;
+  byId('to-verdict').hidden = trace.opensAt < 0;
+  byId('to-verdict').textContent = `Go to line ${trace.opens}`;
   byId('to-verdict').classList.add(trace.verdict.kind);
   for (const space of [0, 1, 2]) addSpace(space);
   for (const name of Object.keys(charts)) addPointer(name);
+  addStrip();
 }
 
 // A button that shows and hides the packets of a space.

@@ -51,6 +51,8 @@ function unpack(said, text) {
   trace.verdictAt = placeShown(said.verdict.line);
   // Past departures the trace ends in another way, and at another line.
   trace.endAt = said.end && said.end.kind !== 'accepted' ? placeShown(said.end.line) : -1;
+  // The line about which the page opens.
+  trace.opensAt = placeShown(said.opens);
   trace.departed = departedOf(said.departures);
   unpackState(said.state);
   unpackPackets(said.packets);
@@ -216,8 +218,10 @@ function culpritsOf() {
 function culpritOf(at, {rule, field}) {
   if (at < 1) return null;
   const packet = trace.packets.of[at];
-  if (rule === 'V7' && packet >= 0)
-    return {at, chart: 'window', value: trace.state.in_flight[at - 1] + trace.packets.size[packet]};
+  if (rule === 'V7' && packet >= 0) {
+    const value = trace.state.in_flight[at - 1] + trace.packets.size[packet];
+    return {at, chart: 'window', value, room: trace.state.window[at - 1] - value};
+  }
   const report = firstNotBelow(trace.reports.at, at);
   const of = {V16: field, V19: 'window'}[rule];
   if (trace.reports.at[report] !== at || !of) return null;

@@ -1,9 +1,9 @@
 // Packets over time: a lane for each packet number space, each with numbers of its own, and below
 // them how long the loss detection timer has to run.
 
-const TIMER_LANE = 66;
-const LEAST_LANE = 56;
-const LANE_GAP = 10;
+const TIMER_LANE = 56;
+const LEAST_LANE = 26;
+const LANE_GAP = 8;
 const lanes = [];
 let shownPackets = [], timerLane = null, isDense = false, packetRadius = 3.6;
 

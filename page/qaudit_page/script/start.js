@@ -11,45 +11,27 @@ function widthOfLabels() {
   return Math.max(innerWidth < 600 ? 56 : 74, Math.min(innerWidth / 4, 7 * digits + 8));
 }
 
-// The range selector shows how many packets had been sent.
-function progress() {
-  const {count} = trace.packets, rows = [[view.low, 0]];
-  const step = Math.max(1, Math.floor(count / 700));
-  for (let p = 0; p < count; p += step) {
-    const x = Math.max(view.low, xOfPacket(p));
-    if (x > rows[rows.length - 1][0]) rows.push([x, p + 1]);
-  }
-  rows.push([view.high, count]);
-  return rows;
-}
-
-// When the range selector of dygraphs has moved the window of one diagram, all follow.
-function followSelector(chart, isFirst) {
-  if (isFirst || isDrawing) return;
-  const [from, to] = chart.xAxisRange();
-  if (from !== view.from || to !== view.to) show(from, to);
-}
+// The packets are drawn from the columns; dygraphs has the ends of the axis only.
+const ends = () => [[view.low, 0], [view.high, 0]];
 
 function options(more) {
   return {
     legend: 'never', showLabelsOnHighlight: false, highlightCircleSize: 0, stepPlot: true,
     labelsUTC: true, animatedZooms: false, fillAlpha: 0.13, connectSeparatedPoints: true,
-    gridLineWidth: 0.5, rightGap: 8, xlabelHeight: 16, xlabel: nameOfAxis(),
+    gridLineWidth: 0.5, rightGap: 8, xlabelHeight: 16,
     underlayCallback: drawUnder, interactionModel: {}, dateWindow: [view.from, view.to],
-    drawCallback: followSelector, ...more,
+    ...more,
   };
 }
 
 const toneOfAxes = () => ({axisLineColor: colors.soft, gridLineColor: colors.line});
-const toneOfSelector = () => ({
-  rangeSelectorPlotFillColor: colors.app, rangeSelectorPlotFillGradientColor: colors.paper,
-  rangeSelectorPlotStrokeColor: colors.app, rangeSelectorBackgroundStrokeColor: colors.soft,
-  rangeSelectorForegroundStrokeColor: colors.soft,
-});
 const line = (color, strokeWidth, strokePattern = null) => ({color, strokeWidth, strokePattern});
 const seriesOfWindow = () => ({
   window: line(colors.app, 2.2), ssthresh: line(colors.soft, 1.4, DASHES.ssthresh),
   flight: {...line(colors.flight, 1.5), fillGraph: true}, marks: {plotter: drawWindowMarks},
+});
+const seriesOfHeadroom = () => ({
+  headroom: {...line(colors.flight, 1.5), fillGraph: true}, marks: {plotter: drawHeadroomMarks},
 });
 const seriesOfRtt = () => ({
   smoothed: line(colors.initial, 2.2), latest: line(colors.latest, 1),
@@ -63,12 +45,10 @@ function makeCharts() {
   const x = {axisLabelFormatter: tickOf, axisLabelWidth: 74, pixelsPerLabel};
   const y = {axisLabelWidth: widthOfLabels(), valueRange: [0, 1], pixelsPerLabel: 34};
   const ticker = () => charts.packets ? laneTicks(charts.packets.getArea().h) : [];
-  isDrawing = true;
   // The legend of dygraphs sets attributes for style, which the policy of the page forbids.
   Dygraph.PLUGINS = Dygraph.PLUGINS.filter(plugin => plugin !== Dygraph.Plugins.Legend);
-  charts.packets = new Dygraph(byId('chart-packets'), progress(), options({
-    labels: ['x', 'packets'], plotter: drawPackets,
-    showRangeSelector: true, rangeSelectorHeight: 34, ...toneOfAxes(), ...toneOfSelector(),
+  charts.packets = new Dygraph(byId('chart-packets'), ends(), options({
+    labels: ['x', 'packets'], plotter: drawPackets, ...toneOfAxes(),
     axes: {x, y: {...y, ticker}},
   }));
   const formatter = {axisLabelFormatter: tickOf};
@@ -76,11 +56,15 @@ function makeCharts() {
     labels: ['x', 'window', 'ssthresh', 'flight', 'marks'], ...toneOfAxes(),
     series: seriesOfWindow(), axes: {x, y: {...y, ...formatter}},
   }));
+  charts.headroom = new Dygraph(byId('chart-headroom'), rowsOf(lines.headroom, 200), options({
+    labels: ['x', 'headroom', 'marks'], ...toneOfAxes(), series: seriesOfHeadroom(),
+    axes: {x: {...x, drawAxis: false}, y: {...y, ticker: () => roomTicks}},
+  }));
   charts.rtt = new Dygraph(byId('chart-rtt'), rowsOf(lines.rtt, 200), options({
     labels: ['x', 'smoothed', 'latest', 'least', 'lossDelay', 'timeout', 'marks'],
     ...toneOfAxes(), series: seriesOfRtt(), axes: {x, y: {...y, ...formatter}},
+    xlabel: nameOfAxis(),
   }));
-  isDrawing = false;
   const departed = trace.departed.size ? `, ${grouped(trace.departed.size)} lines with violations` : '';
   const about = `${grouped(trace.packets.count)} packets, ${trace.verdict.kind}${departed}`;
   byId('chart-packets').setAttribute('aria-label', `Packet numbers over time: ${about}`);
@@ -88,11 +72,10 @@ function makeCharts() {
 
 function recolor() {
   readColors();
-  isDrawing = true;
-  charts.packets.updateOptions({...toneOfAxes(), ...toneOfSelector()}, true);
+  charts.packets.updateOptions(toneOfAxes(), true);
   charts.window.updateOptions({...toneOfAxes(), series: seriesOfWindow()}, true);
+  charts.headroom.updateOptions({...toneOfAxes(), series: seriesOfHeadroom()}, true);
   charts.rtt.updateOptions({...toneOfAxes(), series: seriesOfRtt()}, true);
-  isDrawing = false;
   fillKeys();
   update();
 }
@@ -209,7 +192,9 @@ function noteScheme() {
   document.documentElement.classList.toggle('dark', isDark);
 }
 
+// What is folded is printed too, where it is said against the sender.
 function fitToPaper() {
+  if (byId('departures')) byId('departures').open = true;
   const share = Math.min(1, 690 / byId('main').clientWidth);
   document.documentElement.style.setProperty('--fit', String(share));
 }
@@ -223,11 +208,11 @@ function begin(started) {
   makeCharts();
   addControls();
   fillKeys();
-  update();
   if (!followAddress()) {
-    if (trace.verdictAt >= 0) select(trace.verdictAt, {isNamed: false});
+    if (trace.opensAt >= 0) select(trace.opensAt, {zooms: true, isNamed: false});
     else fillTable();
   }
+  update();
   if (trace.verdict.line && trace.verdictAt < 0 && trace.verdict.line <= trace.total)
     tell(`Line ${trace.verdict.line} is not in this page, which has lines ${trace.first} to ` +
       `${trace.first + trace.count - 1} of ${trace.total}.`);

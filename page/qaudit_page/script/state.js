@@ -1,13 +1,17 @@
 // The congestion window and the round-trip time, as the rows of the machine have them.
 
-let windowRange = [0, 1], rttRange = [0, 1];
-const lines = {window: {}, rtt: {}};
+let windowRange = [0, 1], rttRange = [0, 1], roomRange = [0, 1], roomRows = [];
+let roomTicks = [];
+// If the window is passed, so many times the excess is seen of what is left of it.
+const ROOM_TIMES = 2;
+const lines = {window: {}, rtt: {}, headroom: {}};
 
 // The series of both diagrams, in bytes and in milliseconds.
 function setLines() {
   const {state, scale, firstSample} = trace;
   const inTime = column => column.map((value, i) => i >= firstSample ? value / scale : NaN);
   lines.window = {window: state.window, ssthresh: state.ssthresh, flight: state.in_flight};
+  lines.headroom = {headroom: state.window.map((bytes, i) => bytes - state.in_flight[i])};
   lines.rtt = {
     smoothed: inTime(state.smoothed_rtt), latest: inTime(state.latest_rtt),
     least: inTime(state.min_rtt), lossDelay: lossDelay().map((v, i) => i >= firstSample ? v : NaN),
@@ -82,13 +86,21 @@ function rowsOf(series, pixels) {
   return rows;
 }
 
-// The least and the greatest value that is seen, of the rows and of what is reported.
-function extremes(rows, reported, chart) {
+// The least and the greatest value of the rows that are seen. A row before the view holds into it;
+// one after it is there only for the line that leads to it.
+function extremesOf(rows) {
   let low = Infinity, high = -Infinity;
-  for (const row of rows) for (let k = 1; k < row.length - 1; k++) if (row[k] !== null) {
-    low = Math.min(low, row[k]);
-    high = Math.max(high, row[k]);
-  }
+  for (const row of rows) for (let k = 1; k < row.length - 1; k++)
+    if (row[k] !== null && row[0] <= view.to) {
+      low = Math.min(low, row[k]);
+      high = Math.max(high, row[k]);
+    }
+  return [low, high];
+}
+
+// The same, with what is reported and what is refused.
+function extremes(rows, reported, chart) {
+  let [low, high] = extremesOf(rows);
   if (high < 0) [low, high] = [0, 0];
   const {at} = trace.reports, limit = high ? high * 4 : Infinity;
   for (let k = 0; k < at.length; k++) if (isSeen(view.x[at[k]])) for (const column of reported) {
@@ -101,10 +113,10 @@ function extremes(rows, reported, chart) {
   return [low, high];
 }
 
-// From 0, but where one looks closely and all that is seen lies far above it.
+// From 0 for the whole run; for a part of it what is seen there, unless that comes near 0.
 function padded([low, high]) {
-  const isClose = view.to - view.from < (view.high - view.low) / 3;
-  if (!isClose || !(low > high * 0.7)) return [0, (high || 1) * 1.2];
+  const isPart = view.to - view.from < (view.high - view.low) * 0.98;
+  if (!isPart || !(low > high * 0.25)) return [0, (high || 1) * 1.2];
   const room = (high - low || high * 0.1) * 0.25;
   return [low - room, high + room * 1.6];
 }
@@ -116,6 +128,59 @@ function updateWindow() {
   windowRange = padded(extremes(rows, [window, bytes_in_flight], 'window'));
   const axes = {y: {valueRange: windowRange}};
   charts.window.updateOptions({file: rows, dateWindow: [view.from, view.to], axes});
+}
+
+// What is left of the window. Its lane has 0, and an excess has a good part of it.
+function updateHeadroom() {
+  roomRows = rowsOf(lines.headroom, pixelsOf('headroom'));
+  let [low, high] = extremesOf(roomRows);
+  low = Math.min(low, 0, ...roomsSeen().map(it => it.room));
+  high = Math.max(high, 0);
+  if (low < 0) high = Math.min(high, -low * ROOM_TIMES);
+  roomRange = [low * 1.4 - (high || 1) * 0.08, (high || 1) * 1.25];
+  roomTicks = [...new Set([low, 0, high])].map(v => ({v, label: grouped(Math.round(v))}));
+  const axes = {y: {valueRange: roomRange}};
+  charts.headroom.updateOptions({file: roomRows, dateWindow: [view.from, view.to], axes});
+}
+
+// What would be left with the packets that are seen and have no room.
+const roomsSeen = () => trace.culprits.filter(it => it.room < 0 && isSeen(view.x[it.at]));
+
+function drawHeadroomMarks(event) {
+  const context = event.drawingContext, area = event.plotArea, to = scaleOf(area, roomRange);
+  context.save();
+  stroked(context, colors.soft, 1, [], () => {
+    context.moveTo(area.x, to.y(0));
+    context.lineTo(area.x + area.w, to.y(0));
+  });
+  drawExcess(context, area, to);
+  const free = cells(area, 6);
+  stroked(context, colors.refused, 2, [], () => {
+    for (const {at, room} of roomsSeen()) {
+      const x = to.x(view.x[at]), y = Math.min(to.y(room), area.y + area.h - 4);
+      if (free(x, y)) cross(context, x, y, 3.5);
+    }
+  });
+  drawOver(context, area, null);
+  const text = 'headroom: window less in flight (bytes)';
+  context.font = FONT;
+  backed(context, area.x + 2, area.y + 1, context.measureText(text).width + 4, 14);
+  words(context, text, area.x + 4, area.y + 2, colors.flight, 'left', 'top');
+  context.restore();
+}
+
+// Red from 0 down to what is in flight past the window, at least three pixels of it.
+function drawExcess(context, area, to) {
+  const zero = to.y(0);
+  context.fillStyle = colors.refused;
+  let before = 0;
+  roomRows.forEach((row, k) => {
+    const value = row[1] ?? before, next = roomRows[k + 1];
+    before = value;
+    if (!(value < 0) || !next) return;
+    const left = Math.max(area.x, to.x(row[0])), right = Math.min(area.x + area.w, to.x(next[0]));
+    if (right > left) context.fillRect(left, zero, right - left, Math.max(3, to.y(value) - zero));
+  });
 }
 
 function updateRtt() {

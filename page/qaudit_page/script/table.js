@@ -117,7 +117,7 @@ function select(place, {stays = false, zooms = false, isNamed = true} = {}) {
   if (!stays || !isThere) tableFrom = Math.max(0, Math.min(trace.count - ROWS, at - 9));
   fillTable();
   const x = view.x[at], half = (view.to - view.from) / 2;
-  if (zooms) showAround(at, at, 40);
+  if (zooms) showAbout(at);
   else if (!isSeen(x)) show(x - half, x + half);
   else redraw();
   byId('said').textContent = summaryOf(at);

@@ -6,7 +6,13 @@ const charts = {};
 // Above so many lines that depart each is drawn as a tick of this height, in pixels.
 const MANY_DEPARTURES = 40;
 const TICK = 12;
-let isDrawing = false, frameWanted = 0, frames = 0, lastFrame = 0;
+// How many round-trips are shown before a line that is looked for, and how many after it: at most
+// this share of the run, and as many lines as this unless that takes several times the span.
+const TRIPS = [2, 1];
+const MOST_SHARE = 1 / 3;
+const LEAST_LINES = 12;
+const MOST_TIMES = 8;
+let frameWanted = 0, frames = 0, lastFrame = 0;
 
 // The x of each line: its time in milliseconds, which never falls here, or its number.
 function setAxis() {
@@ -70,6 +76,41 @@ function showAround(first, last, margin) {
   show(from - room, to + room);
 }
 
+// Shows a line with a few round-trips about it, with the silence before it and the deadline that
+// decides of it; by line, with some lines about it.
+function showAbout(place) {
+  if (view.byLine) return showAround(place, place, 40);
+  const x = view.x[place], all = view.high - view.low;
+  const trip = Math.min(tripAt(place), all * MOST_SHARE / (TRIPS[0] + TRIPS[1]));
+  let from, to, times = 1;
+  do {
+    [from, to] = [x - TRIPS[0] * trip * times, x + TRIPS[1] * trip * times];
+    times *= 2;
+  } while (times <= MOST_TIMES && placeAt(to) - placeAt(from) < LEAST_LINES);
+  from = Math.min(from, x - silentBefore(place));
+  const deadline = place === trace.verdictAt ? trace.verdict.deadline / trace.scale : NaN;
+  if (deadline < view.high) to = Math.max(to, deadline);
+  const room = (to - from) * 0.04;
+  if (to - from > all * 0.8) return showAll();
+  return show(from - room, to + room);
+}
+
+// A round-trip at a line, in milliseconds: the smoothed one; before the first sample, that.
+function tripAt(place) {
+  const {firstSample, limit, count, scale, state} = trace;
+  const last = Math.min(limit, count) - 1, at = Math.max(Math.min(place, last), firstSample);
+  return state.smoothed_rtt[Math.min(at, last)] / scale || (view.high - view.low) / 20;
+}
+
+// How long nothing but reports had come before a line while something was awaited.
+function silentBefore(place) {
+  let at = place - 1;
+  while (at >= 0 && (!hasTime(at) || trace.kind[at] === 'm')) at--;
+  const {in_flight: flying, timer} = trace.state;
+  const isAwaited = at >= 0 && (flying[at] > 0 || timer[at] !== NO_SPACE);
+  return isAwaited ? view.x[place] - view.x[at] : 0;
+}
+
 function redraw() {
   if (!frameWanted) frameWanted = requestAnimationFrame(update);
 }
@@ -78,11 +119,11 @@ function update() {
   if (frameWanted) cancelAnimationFrame(frameWanted);
   frameWanted = 0;
   const begun = performance.now();
-  isDrawing = true;
   updatePackets();
   updateWindow();
+  updateHeadroom();
   updateRtt();
-  isDrawing = false;
+  updateStrip();
   lastFrame = performance.now() - begun;
   frames++;
 }
@@ -120,7 +161,8 @@ function drawUnder(context, area) {
 }
 
 // Above the data: what departs, the line of the verdict and the one that ends the trace, with the
-// deadlines that decide, and the one selected.
+// deadlines that decide, and the one selected. The diagram has all flags, those of the verdict, or
+// where null is given none.
 function drawOver(context, area, hasLabels) {
   const to = scaleOf(area, [0, 1]), departed = drawDeparted(context, area, to);
   const verdicts = [[trace.verdictAt, trace.verdict], [trace.endAt, trace.end]];
@@ -134,7 +176,7 @@ function drawOver(context, area, hasLabels) {
     const flag = drawDeadline(context, area, to, verdict);
     if (flag && hasLabels) flags.push(flag);
   }
-  if (!hasLabels) return drawFlags(context, area, flags);
+  if (!hasLabels) return hasLabels === null || drawFlags(context, area, flags);
   flags.push(...departed);
   let before = -9, at = -1;
   for (const mark of trace.marks) {
