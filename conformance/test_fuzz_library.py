@@ -89,6 +89,8 @@ MISTAKES = {
     "NAMES": "a name was written where it has no room",
 }
 PROGRAM = FOLDER / "fuzz_library"
+# By a number and not for a time, so that a busy computer finds the same.
+INPUTS = 40_000
 
 
 def made(folder: Path, wrong: str = "") -> Path | None:
@@ -149,9 +151,9 @@ class Findings(unittest.TestCase):
         """The status and what is printed for a library."""
         folder = new_folder(self)
         library = made(folder, wrong)
-        command = [sys.executable, PROGRAM, "--minutes", "0.02", *words, library]
+        command = [sys.executable, PROGRAM, "--inputs", INPUTS, *words, library]
         ended = subprocess.run(
-            list(map(str, command)), capture_output=True, text=True, timeout=120, check=False
+            list(map(str, command)), capture_output=True, text=True, timeout=600, check=False
         )
         self.assertEqual(ended.stderr, "")
         return ended.returncode, ended.stdout
