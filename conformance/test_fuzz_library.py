@@ -90,7 +90,7 @@ MISTAKES = {
 }
 PROGRAM = FOLDER / "fuzz_library"
 # By a number and not for a time, so that a busy computer finds the same.
-INPUTS = 40_000
+INPUTS = 100_000
 
 
 def made(folder: Path, wrong: str = "") -> Path | None:
