@@ -166,7 +166,13 @@ class Proving(Repository):
         write_program(self.top / "kit/rt", SLOW)
         path = f"{self.top / 'kit'}:{os.environ['PATH']}"
         command = [sys.executable, "release/prove", "bin", "other"]
-        with subprocess.Popen(command, cwd=self.top, env={**os.environ, "PATH": path}) as running:
+        with subprocess.Popen(
+            command,
+            cwd=self.top,
+            env={**os.environ, "PATH": path},
+            # A command in the background of a shell has it ignored.
+            preexec_fn=lambda: signal.signal(signal.SIGINT, signal.SIG_DFL),
+        ) as running:
             limit = time.monotonic() + 30
             while not (self.top / "number").exists() and time.monotonic() < limit:
                 time.sleep(0.05)
