@@ -51,6 +51,12 @@ def is_running(number: int) -> bool:
     return text.rpartition(")")[2].split()[0] not in "ZX"
 
 
+def as_usual() -> None:
+    """Has signals end a process, which a shell has it ignore in the background, or `nohup`."""
+    for number in (signal.SIGINT, signal.SIGTERM, signal.SIGHUP):
+        signal.signal(number, signal.SIG_DFL)
+
+
 class Names(unittest.TestCase):
     """Rows and columns by names."""
 
@@ -331,7 +337,11 @@ class Tables(unittest.TestCase):
                 (Path(folder) / f"{number}.trace").write_bytes(GOOD)
             command = [str(COMMAND), "--program", str(slow), "--jobs", "4", folder]
             with subprocess.Popen(
-                command, stdout=subprocess.PIPE, stderr=subprocess.PIPE, start_new_session=True
+                command,
+                stdout=subprocess.PIPE,
+                stderr=subprocess.PIPE,
+                start_new_session=True,
+                preexec_fn=as_usual,
             ) as running:
                 time.sleep(2)
                 os.killpg(running.pid, signal.SIGINT)
@@ -348,7 +358,9 @@ class Tables(unittest.TestCase):
                 for number in range(20):
                     (Path(folder) / f"{number}.trace").write_bytes(GOOD)
                 command = [str(COMMAND), "--program", str(slow), "--jobs", "4", folder]
-                with subprocess.Popen(command, stdout=subprocess.DEVNULL) as running:
+                with subprocess.Popen(
+                    command, stdout=subprocess.DEVNULL, preexec_fn=as_usual
+                ) as running:
                     time.sleep(1.5)
                     workers = children_of(running.pid)
                     running.send_signal(ending)
