@@ -306,6 +306,7 @@ bench: build
 	bench/run $(built)
 	bench/peers $(built)
 	bench/instructions $(built)
+	bench/instructions --forms $(built)
 	if [ -f $(library) ]; then bench/library $(built) $(library); fi
 
 # A release is a folder that installs itself, so that there is one way to install.

@@ -48,6 +48,11 @@ CHOICES = {
     "sample_eliciting_only": False,
     "packet_threshold": 3,
     "loss_by_number": "must",
+    "threshold_counts": "numbers",
+    "reset_rtt": False,
+    "latest_rtt_less_delay": False,
+    "time_threshold_eighths": 9,
+    "recovery_by_order": False,
 }
 OF_CHOICES = {
     "refresh_min_rtt": "by choice: persistent congestion refreshes min_rtt"
@@ -58,6 +63,14 @@ OF_CHOICES = {
     "packet_threshold": "by choice: a packet threshold of {} (packet_threshold)",
     "loss_by_number": "by choice: packets past the threshold may be spared"
     ' (loss_by_number "may")',
+    "threshold_counts": "by choice: the packet threshold counts packets"
+    ' (threshold_counts "packets")',
+    "reset_rtt": "by choice: persistent congestion resets the RTT (reset_rtt)",
+    "latest_rtt_less_delay": "by choice: the latest RTT is kept less the peer's delay"
+    " (latest_rtt_less_delay)",
+    "time_threshold_eighths": "by choice: a time threshold of {}/8 (time_threshold_eighths)",
+    "recovery_by_order": "by choice: recovery goes by the order of the lines"
+    " (recovery_by_order)",
 }
 
 

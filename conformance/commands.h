@@ -40,18 +40,24 @@ static inline void read_header(qaudit_trace_header *h) {
     h->report_slack_us = number();
     h->report_slack_bytes = number();
     h->packet_threshold = number();
+    h->time_threshold_eighths = number();
     h->role = small();
     h->unit = small();
     h->window = small();
     h->loss_by_number = small();
+    h->threshold_counts = small();
     h->has_max_ack_delay = flag();
     h->has_initial_rtt = flag();
     h->has_initial_window = flag();
     h->has_timer_late_us = flag();
     h->has_packet_threshold = flag();
+    h->has_time_threshold_eighths = flag();
     h->refresh_min_rtt = flag();
     h->window_overshoot = flag();
     h->sample_eliciting_only = flag();
+    h->reset_rtt = flag();
+    h->latest_rtt_less_delay = flag();
+    h->recovery_by_order = flag();
 }
 
 static inline void read_packet(qaudit_packet *p) {

@@ -13,9 +13,10 @@
 
 #define REPORT 400
 #define FIRST_LINE 100
-#define NAME 21
+#define NAME 22
 #define GUARD 32
 #define MOST_RANGES 5000
+#define MOST_ALLOWED 14
 
 int LLVMFuzzerTestOneInput(const uint8_t *bytes, size_t count);
 
@@ -146,18 +147,24 @@ static qaudit_status_t header(qaudit *q, input *in) {
     h.report_slack_us = number(in);
     h.report_slack_bytes = number(in);
     h.packet_threshold = number(in);
+    h.time_threshold_eighths = number(in);
     h.role = small(in);
     h.unit = small(in);
     h.window = small(in);
     h.loss_by_number = small(in);
+    h.threshold_counts = small(in);
     h.has_max_ack_delay = flag(in);
     h.has_initial_rtt = flag(in);
     h.has_initial_window = flag(in);
     h.has_timer_late_us = flag(in);
     h.has_packet_threshold = flag(in);
+    h.has_time_threshold_eighths = flag(in);
     h.refresh_min_rtt = flag(in);
     h.window_overshoot = flag(in);
     h.sample_eliciting_only = flag(in);
+    h.reset_rtt = flag(in);
+    h.latest_rtt_less_delay = flag(in);
+    h.recovery_by_order = flag(in);
     return qaudit_header(q, &h);
 }
 
@@ -261,6 +268,33 @@ static void names(input *in) {
     for (i = count <= room ? count : 0; i < sizeof text; i++) check(text[i] == 0xA5, "a name was written where it has no room");
 }
 
+/* A reason is written where it has room, and in no other place; there is none if nothing is open. */
+static void reason(qaudit *q, input *in, qaudit_status_t state) {
+    uint16_t rows = (uint16_t)number(in);
+    uint8_t none = 0xA5, *text;
+    size_t count = qaudit_around(q, rows, &none, 0), first = qaudit_why(q, &none, 0);
+    check(none == 0xA5, "a reason was written where it has no room");
+    check(first <= count && (first > 0) == (count > 0), "rows take away from the reason");
+    check(state != QAUDIT_CLOSED || count == 0, "a reason without a session");
+    text = (uint8_t *)malloc(count ? count : 1);
+    check(text != NULL, "no memory for a reason");
+    check(qaudit_around(q, rows, text, count) == count, "a reason has another length");
+    check(!count || text[0] == '-', "a reason has another name");
+    free(text);
+}
+
+/* So are allowances. */
+static void allowed(qaudit *q, qaudit_status_t state) {
+    qaudit_allowance all[MOST_ALLOWED + 1], before[MOST_ALLOWED + 1];
+    size_t count;
+    memset(all, 0xA5, sizeof all);
+    memset(before, 0xA5, sizeof before);
+    count = qaudit_allowed(q, all, MOST_ALLOWED);
+    check(state != QAUDIT_CLOSED || count == 0, "something was allowed without a session");
+    check(count <= MOST_ALLOWED, "more was allowed than the header says");
+    check(memcmp(all + count, before, sizeof all - count * sizeof *all) == 0, "allowances have something behind them");
+}
+
 /* Makes the next call, and says how far the audit is then. */
 static qaudit_status_t call(qaudit *q, input *in, qaudit_status_t state) {
     switch (next(in) % 16) {
@@ -288,7 +322,14 @@ static qaudit_status_t call(qaudit *q, input *in, qaudit_status_t state) {
     }
     case 13: tell(q, state); return state;
     case 14: names(in); return state;
-    default: return state;
+    default:
+        switch (next(in) % 3) {
+        case 0:
+            check(qaudit_open_recorded(q) == QAUDIT_OPEN, "it was not opened");
+            return QAUDIT_OPEN;
+        case 1: reason(q, in, state); return state;
+        default: allowed(q, state); return state;
+        }
     }
 }
 

@@ -7,6 +7,11 @@
  *     library orders         calls each function where it has nothing to do
  *     library many           hands in acknowledgments of very many ranges
  *     library kept           counts what the acknowledgments behind the first ask for: nothing
+ *     library why ROWS N     feeds standard input in pieces of N bytes, and writes why it is refused, with so many rows
+ *     library said ROWS      the same of what the commands of standard input say
+ *     library allowed        feeds standard input, and writes what its header allowed: a line of numbers for each rule
+ *     library unrecorded N   feeds standard input in pieces of N bytes, and asks for all this, with each allocation refused
+ *                            in turn
  *
  * The first two write the report. A command is a line, and its numbers are the fields of a struct or
  * the arguments of a call; one that has none has a 0:
@@ -301,6 +306,138 @@ static int run_calls(void) {
     return failed;
 }
 
+/* ---- why it is refused */
+
+static size_t put_reason(qaudit *q, uint16_t rows, uint8_t *out, size_t room) {
+    return rows ? qaudit_around(q, rows, out, room) : qaudit_why(q, out, room);
+}
+
+/* Writes the reason, which is put nowhere where it has no room. */
+static int tell_reason(qaudit *q, uint16_t rows) {
+    uint8_t *text;
+    size_t count = 0, at;
+    text = (uint8_t *)__real_malloc(1);
+    if (!text) exit(2);
+    *text = 0xA5;
+    count = put_reason(q, rows, text, 0);
+    if (count == 0) return fail("there is no reason");
+    if (*text != 0xA5) return fail("a reason was put where it has no room");
+    text = (uint8_t *)__real_realloc(text, count + 1);
+    if (!text) exit(2);
+    memset(text, 0xA5, count + 1);
+    if (put_reason(q, rows, text, count - 1) != count) return fail("the reason has another length");
+    for (at = 0; at < count; at++)
+        if (text[at] != 0xA5) return fail("a reason was put where it just has no room");
+    if (put_reason(q, rows, text, count + 1) != count || text[count] != 0xA5) return fail("something was put behind the reason");
+    if (!rows) {
+        uint8_t *other = (uint8_t *)__real_malloc(count);
+        if (!other) exit(2);
+        if (qaudit_around(q, 0, other, count) != count || memcmp(text, other, count) != 0) return fail("without rows the reason is another");
+        __real_free(other);
+    }
+    fwrite(text, 1, count, stdout);
+    __real_free(text);
+    return 0;
+}
+
+static int run_why(uint16_t rows, size_t piece) {
+    qaudit q = {NULL, false};
+    input all = read_all();
+    int failed;
+    if (qaudit_open_recorded(&q) != QAUDIT_OPEN) return fail("it is not open");
+    feed_pieces(&q, &all, piece);
+    failed = tell_reason(&q, rows);
+    qaudit_close(&q);
+    __real_free(all.bytes);
+    return failed;
+}
+
+static int run_said(uint16_t rows) {
+    qaudit q = {NULL, false};
+    input all = read_all();
+    qaudit_status_t status = qaudit_open_recorded(&q);
+    int failed;
+    place = (const char *)all.bytes;
+    while (place < (const char *)all.bytes + all.count && status == QAUDIT_OPEN) status = hand_next(&q);
+    failed = tell_reason(&q, rows);
+    qaudit_close(&q);
+    __real_free(all.bytes);
+    return failed;
+}
+
+#define MOST_ALLOWED 14
+
+/* Writes what the header allowed, which is put nowhere where it has no room. */
+static int run_allowed(void) {
+    qaudit q = {NULL, false};
+    qaudit_allowance allowed[MOST_ALLOWED], before[MOST_ALLOWED];
+    input all = read_all();
+    size_t count, i;
+    memset(allowed, 0xA5, sizeof allowed);
+    memset(before, 0xA5, sizeof before);
+    if (qaudit_open_recorded(&q) != QAUDIT_OPEN) return fail("it is not open");
+    feed_pieces(&q, &all, 4096);
+    count = qaudit_allowed(&q, allowed, 0);
+    if (count > MOST_ALLOWED) return fail("more was allowed than there is");
+    if (count && qaudit_allowed(&q, allowed, count - 1) != count) return fail("another number was allowed");
+    if (memcmp(allowed, before, sizeof allowed) != 0) return fail("it was put where it has no room");
+    if (qaudit_allowed(&q, allowed, MOST_ALLOWED) != count) return fail("another number was allowed");
+    if (memcmp(allowed + count, before, (MOST_ALLOWED - count) * sizeof *allowed) != 0) return fail("something was put behind it");
+    for (i = 0; i < count; i++) {
+        const qaudit_allowance *it = allowed + i;
+        printf("%" PRIu32 " %" PRIu32 " %" PRIu32 " %" PRIu64 " %" PRIu64 " %" PRIu64 " %" PRIu64 " %" PRIu64 " %d\n", it->rule,
+               it->subject, it->key, it->count, it->first, it->last, it->greatest, it->limit, it->has_limit);
+    }
+    qaudit_close(&q);
+    __real_free(all.bytes);
+    return 0;
+}
+
+#define REASON_ROOM 1000000
+
+typedef struct reason {
+    uint8_t text[REASON_ROOM];
+    size_t count, items;
+    qaudit_allowance allowed[MOST_ALLOWED];
+} reason;
+
+/* Runs over the input with this allocation refused. Returns whether something was not as wanted. */
+static int run_unrecorded(const input *all, size_t piece, long refused, reason *told) {
+    qaudit q = {NULL, false};
+    qaudit_status_t status;
+    memset(told->allowed, 0, sizeof told->allowed);
+    left = refused;
+    calls = blocks = 0;
+    is_counting = 1;
+    status = qaudit_open_recorded(&q);
+    if (status == QAUDIT_OPEN) status = feed_pieces(&q, all, piece);
+    told->count = qaudit_around(&q, 1, told->text, REASON_ROOM);
+    told->items = qaudit_allowed(&q, told->allowed, MOST_ALLOWED);
+    if ((status == QAUDIT_OUT_OF_MEMORY || status == QAUDIT_CLOSED) && (told->count || told->items))
+        return fail("it told why without memory");
+    qaudit_close(&q);
+    is_counting = 0;
+    if (blocks) return fail("a block was lost");
+    if (refused < 0 && told->count == 0) return fail("there is no reason");
+    return 0;
+}
+
+static int run_all_unrecorded(size_t piece) {
+    static reason whole, told;
+    input all = read_all();
+    long refused, total;
+    if (run_unrecorded(&all, piece, -1, &whole)) return 1;
+    total = calls;
+    for (refused = 0; refused < total; refused++) {
+        if (run_unrecorded(&all, piece, refused, &told)) return 1;
+        if (told.count && (told.count != whole.count || memcmp(told.text, whole.text, whole.count) != 0)) return fail("the reason is another");
+        if (told.items && (told.items != whole.items || memcmp(told.allowed, whole.allowed, sizeof whole.allowed) != 0))
+            return fail("something else was allowed");
+    }
+    printf("%ld\n", total);
+    return 0;
+}
+
 /* ---- refused allocations */
 
 /* Runs over the input with this allocation refused. Returns whether something was not as wanted. */
@@ -348,6 +485,7 @@ static int run_orders(void) {
     static const uint8_t half[] = "{\"event\"";
     qaudit q = {NULL, false};
     qaudit_told told;
+    qaudit_allowance allowance;
     qaudit_packet packet;
     qaudit_range range;
     memset(&packet, 0, sizeof packet);
@@ -356,8 +494,12 @@ static int run_orders(void) {
     if (qaudit_feed(&q, half, 1) != QAUDIT_CLOSED || qaudit_sent(&q, &packet) != QAUDIT_CLOSED) return fail("closed: it took something");
     if (qaudit_finish(&q) != QAUDIT_CLOSED || qaudit_status(&q) != QAUDIT_CLOSED) return fail("closed: it is open");
     if (qaudit_verdict(&q, &told) || qaudit_report(&q, out, ROOM) != 0) return fail("closed: it has a verdict");
+    if (qaudit_why(&q, out, ROOM) != 0 || qaudit_around(&q, 1, out, ROOM) != 0 || qaudit_allowed(&q, &allowance, 1) != 0)
+        return fail("closed: it has a reason");
     qaudit_close(&q);
     if (qaudit_open(&q) != QAUDIT_OPEN || qaudit_open(&q) != QAUDIT_OPEN) return fail("it was not opened again");
+    if (qaudit_why(&q, out, ROOM) != 0 || qaudit_around(&q, 1, out, ROOM) != 0 || qaudit_allowed(&q, &allowance, 1) != 0)
+        return fail("nothing was recorded: it has a reason");
     if (qaudit_verdict(&q, &told) || qaudit_first_line(&q, out, ROOM) != 0 || qaudit_report(&q, out, ROOM) != 0) return fail("open: it has a verdict");
     packet.space = 3;
     if (qaudit_sent(&q, &packet) != QAUDIT_OUT_OF_RANGE) return fail("it took a space that is none");
@@ -374,9 +516,13 @@ static int run_orders(void) {
     if (!qaudit_verdict(&q, &told) || told.kind != QAUDIT_UNREADABLE || told.line != 1 || told.code != 1) return fail("the verdict is another");
     if (qaudit_open(&q) != QAUDIT_OPEN || qaudit_sent(&q, &packet) != QAUDIT_FIXED) return fail("an event before a header was good");
     if (!qaudit_verdict(&q, &told) || told.kind != QAUDIT_UNREADABLE || told.code != 7 || told.has_totals) return fail("its fault is another");
+    if (qaudit_open_recorded(&q) != QAUDIT_OPEN || qaudit_open_recorded(&q) != QAUDIT_OPEN) return fail("it was not opened again");
+    if (qaudit_why(&q, out, ROOM) == 0 || qaudit_status(&q) != QAUDIT_OPEN) return fail("there is no reason, or it ended the audit");
+    if (qaudit_sent(&q, &packet) != QAUDIT_FIXED || qaudit_why(&q, out, ROOM) == 0) return fail("there is no reason");
+    if (memcmp(out, "-:1: unreadable F7", 18) != 0) return fail("the reason is another");
     qaudit_close(&q);
     if (q.at != NULL || q.is_open) return fail("it is not all zero");
-    if (qaudit_rule_name(0, out, ROOM) || qaudit_rule_name(20, out, ROOM) || qaudit_fault_name(12, out, ROOM) || qaudit_key_name(37, out, ROOM))
+    if (qaudit_rule_name(0, out, ROOM) || qaudit_rule_name(20, out, ROOM) || qaudit_fault_name(12, out, ROOM) || qaudit_key_name(42, out, ROOM))
         return fail("what is none has a name");
     if (qaudit_rule_name(7, out, ROOM) != 11 || memcmp(out, "past-window", 11) != 0) return fail("V7 has another name");
     return 0;
@@ -414,18 +560,43 @@ static qaudit_status_t status_of_many(uint64_t first) {
  *     {"event":"ack","ranges":[[10,100],[4000000000000000000,4000000000000000000],..],"space":"app","time":0}
  *
  * has 65,536 bytes, and "delay":1, or "limited":true, more. */
+static void fill_long(qaudit_range *ranges, uint64_t greatest) {
+    size_t i;
+    ranges[0].least = 10;
+    ranges[0].greatest = greatest;
+    for (i = 1; i < 1560; i++) ranges[i].least = ranges[i].greatest = 4000000000000000000u + 2 * i;
+}
+
 static qaudit_status_t status_of_long(uint64_t greatest, uint64_t delay, bool limited) {
     static qaudit_range ranges[1560];
     qaudit_acknowledgment ack;
-    size_t i;
     memset(&ack, 0, sizeof ack);
     ack.space = QAUDIT_APP;
     ack.delay = delay;
     ack.app_limited = limited;
-    ranges[0].least = 10;
-    ranges[0].greatest = greatest;
-    for (i = 1; i < 1560; i++) ranges[i].least = ranges[i].greatest = 4000000000000000000u + 2 * i;
+    fill_long(ranges, greatest);
     return status_of(&ack, ranges, 1560);
+}
+
+/* An acknowledgment whose line is only short enough without "delay":0 and "limited":false is judged, and ends the record. */
+static int run_longest(void) {
+    static qaudit_range ranges[1560];
+    static uint8_t out[ROOM];
+    qaudit q = {NULL, false};
+    qaudit_trace_header header;
+    qaudit_acknowledgment ack;
+    memset(&header, 0, sizeof header);
+    header.max_datagram_size = 1200;
+    memset(&ack, 0, sizeof ack);
+    ack.space = QAUDIT_APP;
+    fill_long(ranges, 100);
+    if (qaudit_open_recorded(&q) != QAUDIT_OPEN || qaudit_header(&q, &header) != QAUDIT_OPEN) return fail("it took no header");
+    if (qaudit_ack(&q, &ack, ranges, 1560) != QAUDIT_FIXED) return fail("an acknowledgment with a line of 65,536 bytes was not judged");
+    if (qaudit_why(&q, out, ROOM) != 0) return fail("a line of more than 65,536 bytes was recorded");
+    if (qaudit_open_recorded(&q) != QAUDIT_OPEN || qaudit_header(&q, &header) != QAUDIT_OPEN) return fail("it took no header");
+    if (qaudit_ack(&q, &ack, ranges, 1500) != QAUDIT_FIXED || qaudit_why(&q, out, ROOM) == 0) return fail("a long line was not recorded");
+    qaudit_close(&q);
+    return 0;
 }
 
 /* What a line says is judged, and was never sent; of what no line says nothing is taken. */
@@ -436,7 +607,7 @@ static int run_many(void) {
     if (status_of_long(1000, 0, false) != QAUDIT_OUT_OF_RANGE) return fail("an acknowledgment with a line of 65,537 bytes was taken");
     if (status_of_long(100, 1, false) != QAUDIT_OUT_OF_RANGE) return fail("a delay was left out of a line");
     if (status_of_long(100, 0, true) != QAUDIT_OUT_OF_RANGE) return fail("a limit was left out of a line");
-    return 0;
+    return run_longest();
 }
 
 /* ---- memory that is kept */
@@ -490,5 +661,9 @@ int main(int argc, char **argv) {
     if (argc == 2 && strcmp(argv[1], "orders") == 0) return run_orders();
     if (argc == 2 && strcmp(argv[1], "many") == 0) return run_many();
     if (argc == 2 && strcmp(argv[1], "kept") == 0) return run_kept();
+    if (argc == 4 && strcmp(argv[1], "why") == 0) return run_why((uint16_t)piece, (size_t)strtoull(argv[3], NULL, 10));
+    if (argc == 3 && strcmp(argv[1], "said") == 0) return run_said((uint16_t)piece);
+    if (argc == 2 && strcmp(argv[1], "allowed") == 0) return run_allowed();
+    if (argc == 3 && piece > 0 && strcmp(argv[1], "unrecorded") == 0) return run_all_unrecorded(piece);
     return 2;
 }

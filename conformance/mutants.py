@@ -39,11 +39,13 @@ EDGES = sorted({limit + beside for limit in LIMITS for beside in (-1, 0, 1)})
 WORDS = (
     "initial", "handshake", "app", "loss", "pto", "window", "probe", "recovery", "client", "server",
     "header", "sent", "ack", "lost", "timer", "discard", "confirmed", "keys", "metrics", "other",
-    "us", "ns", "newreno", "reported", "must", "may",
+    "us", "ns", "newreno", "reported", "must", "may", "numbers", "packets",
 )
 KEYS = (
     "delay", "limited", "leave", "size", "number", "time", "space", "ranges", "window", "ssthresh",
-    "initial_rtt", "unit", "packet_threshold", "timer_early_us", "loss_by_number", "extra",
+    "initial_rtt", "unit", "packet_threshold", "timer_early_us", "loss_by_number",
+    "threshold_counts", "reset_rtt", "latest_rtt_less_delay", "time_threshold_eighths",
+    "recovery_by_order", "extra",
 )
 OTHER_VALUES: tuple[Any, ...] = (
     None, True, False, 1.0, 1e300, -1, "5", [], {}, [[]], [[0]], [[0, 0]], [[0, 1.5]],

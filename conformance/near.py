@@ -30,6 +30,11 @@ HEADER_KEYS = {
         "packet_threshold",
         "timer_early_us",
         "loss_by_number",
+        "threshold_counts",
+        "reset_rtt",
+        "latest_rtt_less_delay",
+        "time_threshold_eighths",
+        "recovery_by_order",
     ),
 }
 # The keys of the other kinds of lines, in the order of their tables.

@@ -15,6 +15,7 @@ from constants import (
     METRICS_IN_BYTES,
     Rule,
 )
+from names import escaped_in_json
 from sender import Deadline, Event, Ranges, Sender
 from why import (
     OF_A_WINDOW,
@@ -39,9 +40,9 @@ def object_line(name: str, trace: bytes, report: str) -> bytes:
 
 
 def line_of(found: Object) -> bytes:
-    """An object on a line, without white space."""
+    """An object on a line, without white space, and with nothing that is hidden."""
     text = json.dumps(found, separators=(",", ":"), ensure_ascii=False)
-    return text.encode() + b"\n"
+    return escaped_in_json(text).encode() + b"\n"
 
 
 def object_of(name: str, trace: bytes, report: str) -> Object:
@@ -130,9 +131,12 @@ class Facts:
             case Rule.LOSS_OWED:
                 return self.of_owed()
             case Rule.LOSS_NOT_OWED:
-                return self.of_owed() | self.of_free()
+                first = event["ranges"][0][0]
+                unowed = self.of_counted("unowed_counted", event["space"], first)
+                return self.of_owed() | self.of_free() | unowed
             case Rule.LOSS_SET:
-                return self.of_owed() | self.of_free() | self.of_named(event["ranges"])
+                named = self.of_named(event["space"], event["ranges"])
+                return self.of_owed() | self.of_free() | named
             case Rule.NUMBER_NOT_HIGHER | Rule.ACK_UNSENT:
                 return self.of_numbers(event, rule)
             case Rule.PAST_WINDOW | Rule.PAST_PROBE | Rule.PAST_RECOVERY:
@@ -155,7 +159,15 @@ class Facts:
         """What is owed."""
         sender = self.sender
         space = sender.detection.space if sender.detection and sender.owed else None
-        return {"owed_space": space, "owed": runs_of_numbers(sender.owed_numbers)}
+        owed: Object = {"owed_space": space, "owed": runs_of_numbers(sender.owed_numbers)}
+        if space is None:
+            return owed
+        return owed | self.of_counted("owed_counted", space, min(sender.owed_numbers))
+
+    def of_counted(self, key: str, space: str, number: int) -> Object:
+        """How far a number lies below the largest acknowledged one, where packets are counted."""
+        counted = self.sender.counted(space, number)
+        return {key: [counted._asdict()]} if counted else {}
 
     def of_free(self) -> Object:
         """What is free, where the header lets the sender spare packets."""
@@ -165,12 +177,14 @@ class Facts:
         space = sender.detection.space if sender.detection else None
         return {"free_space": space, "free": runs_of_numbers(it.number for it in sender.free)}
 
-    def of_named(self, ranges: Ranges) -> Object:
+    def of_named(self, space: str, ranges: Ranges) -> Object:
         """How the ranges of a Lost line differ from what it may name."""
         owed = self.sender.owed_numbers
         unnamed = (n for n in owed if not any(low <= n <= high for low, high in ranges))
         may_name = owed | {it.number for it in self.sender.free}
-        return {"unnamed": runs_of_numbers(unnamed), "unowed": without(ranges, may_name)}
+        unowed = without(ranges, may_name)
+        named: Object = {"unnamed": runs_of_numbers(unnamed), "unowed": unowed}
+        return named | (self.of_counted("unowed_counted", space, unowed[0][0]) if unowed else {})
 
     def of_numbers(self, event: Event, rule: Rule) -> Object:
         """What was sent in the space of an event."""
@@ -210,7 +224,9 @@ class Facts:
             first = min(sender.below_largest(space), key=lambda it: it.place)
             origin = {"counts_from": "packet"} | self.times(counts_from=first.time)
             rtts = self.times(latest_rtt=sender.latest_rtt, smoothed_rtt=sender.smoothed_rtt)
-            return origin | {"packet": first.number} | rtts
+            eighths = int(8 * sender.settings.time_threshold)
+            told = {"packet": first.number} | rtts | {"time_threshold_eighths": eighths}
+            return origin | told
         what, since, peer_delay = "timer set", sender.last_set, 0
         if sender.packet_deadline() is not None:
             what = "ack-eliciting packet"

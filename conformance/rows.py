@@ -175,9 +175,14 @@ def header_written(header: Event, sender: Sender) -> Object:
             said["timer_late_us"] = settings.timer_late // settings.microsecond
     if header["version"] >= 3:
         said |= {
+            "latest_rtt_less_delay": settings.keeps_rtt_less_delay,
             "loss_by_number": "may" if settings.may_spare else "must",
             "packet_threshold": settings.packet_threshold,
+            "recovery_by_order": settings.recovers_by_order,
+            "reset_rtt": settings.resets_rtt,
             "sample_eliciting_only": settings.samples_eliciting_only,
+            "threshold_counts": "packets" if settings.counts_packets else "numbers",
+            "time_threshold_eighths": int(8 * settings.time_threshold),
             "timer_early_us": settings.timer_early // settings.microsecond,
             "unit": unit_of(header),
             "window": "reported" if settings.is_window_reported else "newreno",

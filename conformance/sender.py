@@ -12,6 +12,8 @@ docs/format.md.
 import math
 from collections.abc import Iterable, Iterator
 from dataclasses import dataclass, field
+from fractions import Fraction
+from itertools import takewhile
 from typing import Any, NamedTuple
 
 from constants import (
@@ -61,16 +63,36 @@ class Deadline(NamedTuple):
     space: str
 
 
+class Counted(NamedTuple):
+    """How far a number lies below the largest acknowledged one, by the packets that were sent with
+    a higher number up to that, and how many of them the packet threshold asks for (6.1.1)."""
+
+    number: int
+    up_to: int
+    packets: int
+    packet_threshold: int
+
+
+class Entry(NamedTuple):
+    """An entry into recovery: its time, and how many packets had been sent by then."""
+
+    time: int
+    sent: int
+
+
 class Detection(NamedTuple):
     """What is kept of the last event, where it looked for losses: its time and space, the packets
-    that it found lost, the bytes in flight that it newly acknowledged, and when recovery began as
-    it was before."""
+    that it found lost, the bytes in flight that it newly acknowledged, and the entry into recovery
+    as it was before. What persistent congestion is judged by is that of its own sample: when the
+    first one was taken, and how far apart lost packets have to be."""
 
     time: int
     space: str
     lost: list[Packet]
     acked_bytes: int
-    recovery_start_time: int | None
+    recovery: Entry | None
+    first_rtt_sample: int | None
+    congestion_duration: int
 
 
 @dataclass
@@ -114,6 +136,12 @@ class Settings:
         self.packet_threshold: int = choices.get("packet_threshold") or K_PACKET_THRESHOLD
         self.timer_early = (choices.get("timer_early_us") or 0) * self.microsecond
         self.may_spare = choices.get("loss_by_number") == "may"
+        self.counts_packets = choices.get("threshold_counts") == "packets"
+        self.resets_rtt: bool = choices.get("reset_rtt") or False
+        self.keeps_rtt_less_delay: bool = choices.get("latest_rtt_less_delay") or False
+        eighths: int | None = choices.get("time_threshold_eighths")
+        self.time_threshold = K_TIME_THRESHOLD if eighths is None else Fraction(eighths, 8)
+        self.recovers_by_order: bool = choices.get("recovery_by_order") or False
 
     def time_of(self, header: Event, key: str, microseconds: int) -> int:
         """The time that a header has under a key, or this one where it leaves it out."""
@@ -181,7 +209,7 @@ class Sender:
         self.congestion_window = self.settings.initial_window
         self.slow_start_threshold: int | None = None
         self.reported_window = self.settings.initial_window
-        self.recovery_start_time: int | None = None
+        self.recovery: Entry | None = None
         self.bytes_in_flight = 0
         self.pto_count = 0
         # The time of the last event that sets the timer.
@@ -242,7 +270,8 @@ class Sender:
     def loss_delay(self) -> int:
         """At which age a packet is past the time threshold (section 6.1.2), rounded up."""
         longest_rtt = max(self.latest_rtt, self.smoothed_rtt)
-        return max(math.ceil(K_TIME_THRESHOLD * longest_rtt), self.settings.granularity)
+        parts = math.ceil(self.settings.time_threshold * longest_rtt)
+        return max(parts, self.settings.granularity)
 
     def total(self, name: str) -> int | None:
         """A total by its name in a report; None where there is none yet."""
@@ -550,6 +579,8 @@ class Sender:
         if self.is_confirmed:
             ack_delay = min(ack_delay, self.settings.max_ack_delay)
         adjusted = sample - ack_delay if sample >= self.min_rtt + ack_delay else sample
+        if self.settings.keeps_rtt_less_delay:
+            self.latest_rtt = adjusted
         self.rttvar = (3 * self.rttvar + abs(self.smoothed_rtt - adjusted)) // 4
         self.smoothed_rtt = (7 * self.smoothed_rtt + adjusted) // 8
 
@@ -558,7 +589,15 @@ class Sender:
         space = self.spaces[name]
         lost = self.past_threshold(space, as_of)
         self.owed_numbers = {it.number for it in lost}
-        detection = Detection(now, name, lost, acked_bytes, self.recovery_start_time)
+        detection = Detection(
+            time=now,
+            space=name,
+            lost=lost,
+            acked_bytes=acked_bytes,
+            recovery=self.recovery,
+            first_rtt_sample=self.first_rtt_sample,
+            congestion_duration=self.congestion_duration,
+        )
         self.detection = detection
         self.remove_lost(space, lost)
         if lost:
@@ -577,7 +616,26 @@ class Sender:
     def is_far_behind(self, space: Space, packet: Packet) -> bool:
         """Whether a packet is past the packet threshold (section 6.1.1)."""
         largest = -1 if space.largest_acked is None else space.largest_acked
-        return largest - packet.number >= self.settings.packet_threshold
+        return self.distance(space, packet.number, largest) >= self.settings.packet_threshold
+
+    def distance(self, space: Space, number: int, largest: int) -> int:
+        """How far a number lies below another: in numbers (A.10), or in the packets of the space
+        that were sent with a higher number up to the other, whether in flight or not."""
+        if not self.settings.counts_packets:
+            return largest - number
+        # Numbers are sent in rising order (V6).
+        later = takewhile(lambda it: it > number, reversed(space.by_number))
+        return sum(1 for it in later if it <= largest)
+
+    def counted(self, name: str, number: int) -> Counted | None:
+        """How far a number of a space lies below the largest acknowledged one by the packets; None
+        where the packet threshold counts numbers, and where nothing was acknowledged."""
+        space = self.spaces[name]
+        largest = space.largest_acked
+        if largest is None or not self.settings.counts_packets:
+            return None
+        packets = self.distance(space, number, largest)
+        return Counted(number, largest, packets, self.settings.packet_threshold)
 
     def remove_lost(self, space: Space, lost: list[Packet]) -> None:
         """Takes lost packets out of flight."""
@@ -587,34 +645,51 @@ class Sender:
 
     def on_packets_lost(self, lost: list[Packet], detection: Detection) -> None:
         """OnPacketsLost (B.8), for the packets of a detection."""
-        self.on_congestion_event(max(it.time for it in lost), detection.time)
-        if self.is_persistent(lost):
+        if not all(self.is_in_recovery(it) for it in lost):
+            self.on_congestion_event(detection.time)
+        if self.is_persistent(lost, detection):
             self.congestion_window = self.settings.minimum_window
-            self.recovery_start_time = None
+            self.recovery = None
             self.acked_since_collapse = detection.acked_bytes
-            # Once the sample of the event has counted (section 5.2).
-            if self.settings.refreshes_min_rtt:
-                self.min_rtt = self.latest_rtt
+            self.on_disruption()
 
-    def on_congestion_event(self, last_sent: int, now: int) -> None:
-        """OnCongestionEvent (B.6)."""
-        if self.is_in_recovery(last_sent):
-            return
-        self.recovery_start_time, self.recovery_spent = now, 0
+    def on_disruption(self) -> None:
+        """What the header has a sender do with its estimate at persistent congestion, once the
+        sample of the event has counted (section 5.2)."""
+        if self.settings.resets_rtt:
+            self.min_rtt = 0
+            self.smoothed_rtt = self.settings.initial_rtt
+            self.rttvar = self.smoothed_rtt // 2
+            self.first_rtt_sample = None
+        elif self.settings.refreshes_min_rtt:
+            self.min_rtt = self.latest_rtt
+
+    def on_congestion_event(self, now: int) -> None:
+        """OnCongestionEvent (B.6), of packets not all of which were sent by the last entry."""
+        self.recovery, self.recovery_spent = Entry(now, self.place), 0
         self.slow_start_threshold = math.floor(K_LOSS_REDUCTION_FACTOR * self.congestion_window)
         self.congestion_window = max(self.slow_start_threshold, self.settings.minimum_window)
 
-    def is_in_recovery(self, sent: int) -> bool:
-        """InCongestionRecovery (B.5)."""
-        return self.recovery_start_time is not None and sent <= self.recovery_start_time
+    def is_in_recovery(self, packet: Packet) -> bool:
+        """InCongestionRecovery (B.5): whether a packet was sent no later than the last entry. Where
+        the order of the lines decides, that is before it, whatever its time (section 7.3.2)."""
+        if self.recovery is None:
+            return False
+        if self.settings.recovers_by_order:
+            return packet.place < self.recovery.sent
+        return packet.time <= self.recovery.time
 
-    def is_persistent(self, lost: list[Packet]) -> bool:
-        """Whether lost packets establish persistent congestion (section 7.6.2)."""
-        first_sample = self.first_rtt_sample
+    @property
+    def congestion_duration(self) -> int:
+        """How far apart packets have to be for persistent congestion (section 7.6.1)."""
+        timeout = self.pto_base + self.settings.max_ack_delay
+        return K_PERSISTENT_CONGESTION_THRESHOLD * timeout
+
+    def is_persistent(self, lost: list[Packet], detection: Detection) -> bool:
+        """Whether lost packets of a detection establish persistent congestion (section 7.6.2)."""
+        first_sample, duration = detection.first_rtt_sample, detection.congestion_duration
         if first_sample is None:
             return False
-        timeout = self.pto_base + self.settings.max_ack_delay
-        duration = K_PERSISTENT_CONGESTION_THRESHOLD * timeout
         ends = [it for it in lost if it.is_eliciting and it.time > first_sample]
         return any(
             last.time - first.time > duration and not self.is_acknowledged_between(first, last)
@@ -628,7 +703,7 @@ class Sender:
 
     def on_packet_acked(self, packet: Packet) -> None:
         """OnPacketAcked (B.5)."""
-        if not packet.is_in_flight or self.is_in_recovery(packet.time):
+        if not packet.is_in_flight or self.is_in_recovery(packet):
             return
         threshold = self.slow_start_threshold
         if threshold is None or self.congestion_window < threshold:
@@ -646,7 +721,7 @@ class Sender:
         more = [it for it in self.free if it.number in numbers]
         if self.detection is not None and more:
             self.remove_lost(self.spaces[event["space"]], more)
-            self.recovery_start_time = self.detection.recovery_start_time
+            self.recovery = self.detection.recovery
             self.on_packets_lost([*self.detection.lost, *more], self.detection)
 
     def on_timer(self, event: Event) -> None:

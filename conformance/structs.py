@@ -18,6 +18,7 @@ ROLES = {"client": 0, "server": 1}
 UNITS = {"us": 0, "ns": 1}
 WINDOWS = {"newreno": 0, "reported": 1}
 LOSSES = {"must": 0, "may": 1}
+COUNTS = {"numbers": 0, "packets": 1}
 FIRST_KEYS = {
     *("event", "version", "role", "max_datagram_size"),
     *("max_ack_delay", "initial_rtt", "initial_window"),
@@ -26,6 +27,8 @@ SECOND_KEYS = {"timer_late_us", "refresh_min_rtt", "report_slack_us", "report_sl
 THIRD_KEYS = {
     *("unit", "window", "window_overshoot", "sample_eliciting_only"),
     *("packet_threshold", "timer_early_us", "loss_by_number"),
+    *("threshold_counts", "reset_rtt", "latest_rtt_less_delay", "time_threshold_eighths"),
+    "recovery_by_order",
 }
 HEADER_KEYS = {
     1: FIRST_KEYS,
@@ -127,8 +130,10 @@ def header(said: Said) -> list[int]:
     window = fields.given("initial_window", 2**32 - 1, 2 * size)
     late = fields.given("timer_late_us", 10**15)
     threshold = fields.given("packet_threshold", 65535, 3)
+    eighths = fields.given("time_threshold_eighths", 32, 9)
     controller = fields.choice("window", WINDOWS, "newreno")
     loss = fields.choice("loss_by_number", LOSSES, "must")
+    counts = fields.choice("threshold_counts", COUNTS, "numbers")
     if loss and not controller:
         raise NoStructError
     return [
@@ -136,11 +141,14 @@ def header(said: Said) -> list[int]:
         fields.integer("timer_early_us", 10**9, default=0),
         fields.integer("report_slack_us", 10**9, default=0),
         fields.integer("report_slack_bytes", 2**32 - 1, default=0),
-        *(threshold[0], fields.choice("role", ROLES), unit, controller, loss),
-        *(delay[1], rtt[1], window[1], late[1], threshold[1]),
+        *(threshold[0], eighths[0], fields.choice("role", ROLES), unit, controller, loss, counts),
+        *(delay[1], rtt[1], window[1], late[1], threshold[1], eighths[1]),
         fields.flag("refresh_min_rtt"),
         fields.flag("window_overshoot"),
         fields.flag("sample_eliciting_only"),
+        fields.flag("reset_rtt"),
+        fields.flag("latest_rtt_less_delay"),
+        fields.flag("recovery_by_order"),
     ]
 
 
@@ -244,6 +252,48 @@ def commands_of(trace: bytes) -> Iterator[bytes]:
     for line in cut(trace):
         command = command_of(line[:-1]) if line.endswith(b"\n") else None
         yield command or b"feed %d\n%b" % (len(line), line)
+
+
+# What the writer of the library says of a line, though the line leaves it out.
+DEFAULTS: dict[str, Said] = {
+    "header": {
+        **{"initial_rtt": 333_000, "max_ack_delay": 25_000, "packet_threshold": 3},
+        **{"report_slack_us": 0, "report_slack_bytes": 0, "timer_early_us": 0},
+        **{"unit": "us", "window": "newreno", "loss_by_number": "must"},
+        **{"refresh_min_rtt": False, "window_overshoot": False, "sample_eliciting_only": False},
+        **{"threshold_counts": "numbers", "reset_rtt": False},
+        **{"latest_rtt_less_delay": False, "time_threshold_eighths": 9},
+        **{"recovery_by_order": False},
+    },
+    "sent": {"leave": "window"},
+    "ack": {"delay": 0, "limited": False},
+}
+
+
+def line_of(line: bytes) -> bytes:
+    """The line by which the library says what it was handed as the struct for this line."""
+    said = said_by(line)
+    event = str(said["event"])
+    whole = {**DEFAULTS.get(event, {}), **said}
+    if event == "header":
+        whole["version"] = 3
+        size = whole["max_datagram_size"]
+        assert isinstance(size, int)
+        whole.setdefault("initial_window", min(10 * size, max(14_720, 2 * size)))
+        for key in ("initial_rtt", "max_ack_delay"):
+            if said.get("unit") == "ns" and key not in said:
+                whole[key] = 1000 * int(str(whole[key]))
+    return json.dumps(whole, separators=(",", ":"), sort_keys=True).encode()
+
+
+def recorded(trace: bytes) -> bytes:
+    """What the library records of a trace that `commands_of` hands in."""
+    return b"".join(
+        line_of(line[:-1]) + b"\n"
+        if line.endswith(b"\n") and command_of(line[:-1]) is not None
+        else line
+        for line in cut(trace)
+    )
 
 
 def cut(trace: bytes) -> list[bytes]:

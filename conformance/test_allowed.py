@@ -7,6 +7,7 @@ from allowed import Rest, rest_of
 from departures import course_of
 from runners import FOLDER
 from sender import Sender, report_of
+from structs import THIRD_KEYS
 
 TRACES = FOLDER / "traces"
 # A header that allows nothing, in version 3.
@@ -77,6 +78,11 @@ not compared: the window and ssthresh (window "reported")
 by choice: RTT samples of ack-eliciting packets only (sample_eliciting_only)
 by choice: a packet threshold of 4 (packet_threshold)
 by choice: packets past the threshold may be spared (loss_by_number "may")
+by choice: the packet threshold counts packets (threshold_counts "packets")
+by choice: persistent congestion resets the RTT (reset_rtt)
+by choice: the latest RTT is kept less the peer's delay (latest_rtt_less_delay)
+by choice: a time threshold of 10/8 (time_threshold_eighths)
+by choice: recovery goes by the order of the lines (recovery_by_order)
 """,
     "allowed-in-nanoseconds": """\
 allowed by the header: V16 metric latest_rtt once, line 6, by 2 us (report_slack_us 2)
@@ -247,8 +253,7 @@ class StrictTest(unittest.TestCase):
             lines = [json.loads(line) for line in data.split(b"\n") if line.strip(b" \t\r")]
             header, *events = [{k: v for k, v in it.items() if v is not None} for it in lines]
             if header["version"] < 3:
-                later = ("unit", "window", "packet_threshold", "sample_eliciting_only")
-                header = {k: v for k, v in header.items() if k not in (*later, "loss_by_number")}
+                header = {k: v for k, v in header.items() if k not in THIRD_KEYS}
             if header["version"] < 2:
                 header.pop("refresh_min_rtt", None)
             with self.subTest(trace.name):

@@ -37,6 +37,7 @@ static uint32_t take(void) {
 }
 static uint32_t at(uint64_t time) { last_time = time; return take(); }
 uint32_t qaudit_open(qaudit *q) { return take(); }
+uint32_t qaudit_open_recorded(qaudit *q) { return take(); }
 void qaudit_close(qaudit *q) { take(); }
 uint32_t qaudit_feed(qaudit *q, const uint8_t *b, size_t n) { last_count = n; return take(); }
 uint32_t qaudit_header(qaudit *q, const qaudit_trace_header *h) { return take(); }
@@ -56,6 +57,9 @@ uint32_t qaudit_finish(qaudit *q) { return take(); }
 bool qaudit_verdict(qaudit *q, qaudit_told *out) { out->kind = 1; return take() == 0; }
 size_t qaudit_report(qaudit *q, uint8_t *out, size_t room) { return take(); }
 size_t qaudit_first_line(qaudit *q, uint8_t *out, size_t room) { return take(); }
+size_t qaudit_why(qaudit *q, uint8_t *out, size_t room) { return take(); }
+size_t qaudit_around(qaudit *q, uint16_t rows, uint8_t *out, size_t room) { return take(); }
+size_t qaudit_allowed(qaudit *q, qaudit_allowance *out, size_t room) { return take(); }
 size_t qaudit_rule_name(uint32_t n, uint8_t *out, size_t room) { return 0; }
 size_t qaudit_fault_name(uint32_t n, uint8_t *out, size_t room) { return 0; }
 size_t qaudit_key_name(uint32_t n, uint8_t *out, size_t room) { return 0; }
@@ -79,6 +83,9 @@ def each():
         auditor.metrics(0)
         auditor.report()
         auditor.first_line()
+        auditor.why()
+        auditor.around(3)
+        auditor.allowed()
         auditor.verdict()
         auditor.finish()
         auditor.header(qaudit.Header(role="server", max_datagram_size=1200))
@@ -159,13 +166,16 @@ func TestNoted(t *testing.T) {
                 a.Metrics(0, &Metrics{})
                 a.Report()
                 a.FirstLine()
+                a.Why()
+                a.Around(3)
+                a.Allowed()
                 a.Verdict()
                 a.Finish()
             }
         }()
     }
     all.Wait()
-    if overlaps, calls := noted(); overlaps != 0 || calls != 1+4*20*15 {
+    if overlaps, calls := noted(); overlaps != 0 || calls != 1+4*20*18 {
         t.Errorf("overlaps %d, calls %d", overlaps, calls)
     }
 }
@@ -209,7 +219,7 @@ class Python(unittest.TestCase):
 
     def test_threads_wait_for_one_another(self) -> None:
         # Whether two calls were made at once, and how many were made.
-        self.assertEqual(self.said_by(THREADS), [0, 2 + 4 * 20 * 15])
+        self.assertEqual(self.said_by(THREADS), [0, 2 + 4 * 20 * 18])
 
     def test_times_are_handed_on_whole(self) -> None:
         self.assertEqual(self.said_by(TIMES), [10**15] * 8)

@@ -30,6 +30,7 @@ uint32_t qaudit_open(qaudit *q) {
     q->is_open = true;
     return QAUDIT_OPEN;
 }
+uint32_t qaudit_open_recorded(qaudit *q) { return qaudit_open(q); }
 uint32_t qaudit_status(qaudit *q) { return now(q); }
 uint32_t qaudit_feed(qaudit *q, const uint8_t *b, size_t n) {
     for (size_t i = 0; i < n + READS_ON; i++) seen += b[i];
@@ -68,6 +69,15 @@ size_t qaudit_report(qaudit *q, uint8_t *out, size_t room) {
 size_t qaudit_first_line(qaudit *q, uint8_t *out, size_t room) {
     return qaudit_report(q, out, room);
 }
+size_t qaudit_why(qaudit *q, uint8_t *out, size_t room) {
+    if (!q->is_open) return 0;
+    if (room >= 1 || REASONS) *out = '-';
+    return 1;
+}
+size_t qaudit_around(qaudit *q, uint16_t rows, uint8_t *out, size_t room) {
+    return qaudit_why(q, out, room);
+}
+size_t qaudit_allowed(qaudit *q, qaudit_allowance *out, size_t room) { return ALLOWED; }
 static size_t name(uint32_t which, uint8_t *out, size_t room) {
     if (which != 7) return 0;
     if (room >= 4 || NAMES) memcpy(out, "name", 4);
@@ -87,6 +97,8 @@ MISTAKES = {
     "TELLS": "a report without a verdict, or none with it",
     "WRITES": "a short buffer was written to",
     "NAMES": "a name was written where it has no room",
+    "REASONS": "a reason was written where it has no room",
+    "ALLOWED": "something was allowed without a session",
 }
 PROGRAM = FOLDER / "fuzz_library"
 # By a number and not for a time, so that a busy computer finds the same.

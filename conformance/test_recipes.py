@@ -32,6 +32,7 @@ uint32_t qaudit_open(qaudit *q) {
     q->at = calloc(1, sizeof(struct state));
     return QAUDIT_OPEN;
 }
+uint32_t qaudit_open_recorded(qaudit *q) { return qaudit_open(q); }
 void qaudit_close(qaudit *q) {
     free(q->at);
     q->at = NULL;
@@ -77,6 +78,14 @@ size_t qaudit_first_line(qaudit *q, uint8_t *out, size_t room) {
 size_t qaudit_report(qaudit *q, uint8_t *out, size_t room) {
     return qaudit_first_line(q, out, room);
 }
+size_t qaudit_why(qaudit *q, uint8_t *out, size_t room) {
+    return put("-:12: refused V7 past-window: packet 10 of app takes the bytes in flight to 13200,"
+               " past the window of 12000\n", out, room);
+}
+size_t qaudit_around(qaudit *q, uint16_t rows, uint8_t *out, size_t room) {
+    return qaudit_why(q, out, room);
+}
+size_t qaudit_allowed(qaudit *q, qaudit_allowance *out, size_t room) { return 0; }
 size_t qaudit_rule_name(uint32_t rule, uint8_t *out, size_t room) { return 0; }
 size_t qaudit_fault_name(uint32_t fault, uint8_t *out, size_t room) { return 0; }
 size_t qaudit_key_name(uint32_t key, uint8_t *out, size_t room) { return 0; }

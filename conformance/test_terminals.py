@@ -14,6 +14,7 @@ import unittest
 from collections.abc import Iterator
 from pathlib import Path
 
+from names import is_hidden, shown_name
 from runners import FOLDER
 from testing import new_folder
 
@@ -22,14 +23,19 @@ TRACE = (FOLDER / "traces" / "eleventh-past-window.trace").read_bytes()
 LOG = FOLDER / "real" / "traces" / "ngtcp2-past-window.qlog"
 # What ends lines, moves the cursor, sets a title, rings, and turns text around.
 HIDDEN = "\x1b[31m\x1b]0;title\x07\x7f\x9b2J\r\x08\u202e\u2066\u061c\u200f\u2028"
-# What nobody sees, and Python and qaudit-page escape too.
-TAGS = "\U000e0041\U000e0001\u3164\u200b\ufeff"
+# What nobody sees: tags, fillers, a joiner, a soft hyphen and selectors of variants.
+TAGS = "\U000e0041\U000e0001\u3164\uffa0\u115f\u200b\ufeff\u00ad\u034f\u180e\ufe0f\U000e0100"
 LONG = "n" * 5_000
-# It shows an option that it does not know as it is given.
-AS_IT_IS = "qaudit-why"
+# The planes of Unicode that have a hidden character, and what can be in no name.
+PLANES = (0, 1, 14)
+NO_NAMES = "\0/"
+CHARACTERS_OF_A_NAME = 20_000
+# A name of 255 bytes has 60 characters of 4 bytes.
+CHARACTERS_OF_A_FILE = 60
 PYTHON = ("qaudit-page", "qaudit-matrix", "qlog-to-trace")
 WHY = os.environ.get("QAUDIT_WHY", str(TOP / "page" / "stand_in.py"))
 SECONDS = 60
+Ended = subprocess.CompletedProcess[bytes]
 SCRIPT = 'x.VERSION = "2.2.1"\n'
 
 
@@ -78,14 +84,28 @@ def logs(evil: str) -> Iterator[bytes]:
     yield json.dumps({"event": "header", evil: evil}, ensure_ascii=False).encode()
 
 
-def unseen(text: bytes, extra: str) -> set[str]:
+def unseen(text: bytes, is_python: bool) -> set[str]:
     """The characters of a text that a terminal does not show as they are."""
     marks = set(text.decode("utf-8", "surrogateescape")) - {"\n"}
+    # A program in Python escapes more: what Python does not call printable.
     return {
         f"U+{ord(it):04X}"
         for it in marks
-        if it in extra or (not it.isprintable() and (extra or ord(it) < 0xA0 or it in HIDDEN))
+        if is_hidden(it) or (is_python and not it.isprintable())
     }
+
+
+def characters() -> str:
+    """All characters of these planes that a name may have."""
+    planes = (range(plane << 16, (plane + 1) << 16) for plane in PLANES)
+    numbers = (it for plane in planes for it in plane if not 0xD800 <= it < 0xE000)
+    return "".join(it for it in map(chr, numbers) if it not in NO_NAMES)
+
+
+def pieces(text: str, count: int) -> Iterator[str]:
+    """A text in pieces of so many characters."""
+    for at in range(0, len(text), count):
+        yield text[at : at + count]
 
 
 class Terminals(unittest.TestCase):
@@ -95,7 +115,7 @@ class Terminals(unittest.TestCase):
         self.folder = new_folder(self)
         (self.folder / "dygraphs.js").write_text(SCRIPT)
 
-    def check(self, name: str, words: list[str], ends: tuple[int, ...]) -> None:
+    def check(self, name: str, words: list[str], ends: tuple[int, ...]) -> Ended:
         """A program ends by itself, and writes what can be seen."""
         ended = subprocess.run(
             words,
@@ -107,11 +127,9 @@ class Terminals(unittest.TestCase):
         )
         self.assertIn(ended.returncode, ends, (words, ended.stderr[-300:]))
         self.assertNotIn(b"Traceback", ended.stderr)
-        # A proved program escapes less: what Python finds unseen beyond control characters and
-        # marks that turn text around stays as it is.
-        extra = TAGS if name in PYTHON else ""
         for text in (ended.stdout, ended.stderr):
-            self.assertEqual(unseen(text, extra), set(), (words, text[-300:]))
+            self.assertEqual(unseen(text, name in PYTHON), set(), (words, text[-300:]))
+        return ended
 
     def test_names_of_files(self) -> None:
         evil = f"{HIDDEN}{TAGS}"
@@ -125,10 +143,45 @@ class Terminals(unittest.TestCase):
 
     def test_arguments(self) -> None:
         for name, words in commands(self.folder):
-            if name != AS_IT_IS:
-                self.check(name, [*words, f"--{HIDDEN}{TAGS}"], (64,))
-            if name in PYTHON:
-                self.check(name, [*words, f"--{LONG}{HIDDEN}"], (64,))
+            for word in (f"--{HIDDEN}{TAGS}", f"--{LONG}{HIDDEN}", f"-{TAGS}"):
+                self.check(name, [*words, word], (64,))
+
+    @unittest.skipUnless("QAUDIT_WHY" in os.environ, "QAUDIT_WHY is not set")
+    def test_arguments_of_why(self) -> None:
+        for word in (
+            f"--around={HIDDEN}",
+            f"--around=5{TAGS}",
+            f"--quiet={HIDDEN}{TAGS}",
+            f"-q{TAGS}",
+            f"--x{HIDDEN}\nx: accepted, 9 events",
+        ):
+            ended = self.check("qaudit-why", [os.environ["QAUDIT_WHY"], word], (64,))
+            self.assertEqual(ended.stdout, b"")
+            self.assertNotIn(b"\nx: accepted", ended.stderr)
+        # It names what is wrong, as names are shown.
+        ended = self.check("qaudit-why", [os.environ["QAUDIT_WHY"], "--x\n\u202e"], (64,))
+        self.assertIn(b"unexpected argument '--x\\x0A\\xE2\\x80\\xAE' found", ended.stderr)
+
+    def test_each_character(self) -> None:
+        names = list(pieces(characters(), CHARACTERS_OF_A_NAME))
+        for name, words in commands(self.folder):
+            if name in PYTHON or "explain" in words:
+                continue
+            ended = self.check(name, [*words, "--", *(f"none/{it}" for it in names)], (3,))
+            wanted = "".join(f"{name}: cannot open none/{shown_name(it)}\n" for it in names)
+            self.assertEqual(ended.stderr.decode(), wanted)
+
+    @unittest.skipUnless("QAUDIT_WHY" in os.environ, "QAUDIT_WHY is not set")
+    def test_objects(self) -> None:
+        hidden = "".join(filter(is_hidden, characters()))
+        names = list(pieces(f'{hidden}"\\{{', CHARACTERS_OF_A_FILE))
+        for name in names:
+            (self.folder / name).write_bytes(TRACE)
+        for more in (list[str](), ["--all"]):
+            words = [os.environ["QAUDIT_WHY"], "--json", *more, "--", *names]
+            ended = self.check("qaudit-why", words, (1,))
+            lines = ended.stdout.decode().split("\n")
+            self.assertEqual([json.loads(it)["file"] for it in lines[:-1]], names)
 
     def test_other_names(self) -> None:
         (self.folder / "a.trace").write_bytes(TRACE)

@@ -66,7 +66,7 @@ VALUE_SOURCES = {
     "bytes_in_flight": "RFC 9002, 6.2, B.2: packets are in flight until they are acknowledged,"
     " declared lost or discarded; a timeout takes none out.",
     "latest_rtt": "RFC 9002, 5.1: the time from when the largest packet of the ACK was sent to"
-    " the ACK, with no delay taken off.",
+    " the ACK, with no delay taken off, unless latest_rtt_less_delay says so.",
     "min_rtt": "RFC 9002, 5.2: the least latest_rtt, with no delay taken off.",
     "smoothed_rtt": "RFC 9002, 5.3: 7/8 of smoothed_rtt, and 1/8 of adjusted_rtt.",
     "rttvar": "RFC 9002, 5.3: 3/4 of rttvar, and 1/4 of how far adjusted_rtt is from smoothed_rtt.",
@@ -110,6 +110,11 @@ WANTED = {
     "sample_eliciting_only": BOOLEAN,
     "packet_threshold": "an integer from 3 to 65535",
     "loss_by_number": "the string must, or may where window is reported",
+    "threshold_counts": "the string numbers or packets",
+    "reset_rtt": BOOLEAN,
+    "latest_rtt_less_delay": BOOLEAN,
+    "time_threshold_eighths": "an integer from 9 to 32",
+    "recovery_by_order": BOOLEAN,
     "timer_early_us": "an integer from 0 to 1000000000",
     "time": TIME,
     "space": "the string initial, handshake or app; to discard, initial or handshake",
@@ -460,6 +465,10 @@ def facts(sender: Sender, event: Event, rule: Rule) -> Iterable[str]:
         case Rule.LOSS_SET:
             may_name = sender.owed_numbers | {it.number for it in sender.free}
             yield from differences_of(event["ranges"], sender.owed_numbers, may_name)
+            for low, _ in without(event["ranges"], may_name)[:1]:
+                yield from counted_of(sender, event["space"], low)
+        case Rule.LOSS_NOT_OWED:
+            yield from counted_of(sender, event["space"], event["ranges"][0][0])
         case Rule.NUMBER_NOT_HIGHER:
             greatest = max(sender.spaces[event["space"]].by_number)
             yield f"greatest sent: {event['space']} {greatest}"
@@ -544,7 +553,16 @@ def owed_of(sender: Sender) -> str:
         return "  nothing is owed\n"
     runs = runs_of([[number, number] for number in sender.owed_numbers])
     space = sender.detection.space if sender.detection else ""
-    return f"  owed: {space}{runs_text(runs)}\n"
+    lines = "".join(f"  {it}\n" for it in counted_of(sender, space, min(sender.owed_numbers)))
+    return f"  owed: {space}{runs_text(runs)}\n{lines}"
+
+
+def counted_of(sender: Sender, space: str, number: int) -> Iterable[str]:
+    """How far a number lies below the largest acknowledged one, where packets are counted."""
+    counted = sender.counted(space, number)
+    if counted:
+        threshold = f"packet_threshold {counted.packet_threshold}"
+        yield f"packets sent after {number}, up to {counted.up_to}: {counted.packets} ({threshold})"
 
 
 def free_of(sender: Sender) -> str:
@@ -627,10 +645,11 @@ def deadline_of(sender: Sender, due: Deadline) -> str:
 def rtt_of(sender: Sender, delay: int) -> str:
     """What makes a loss delay."""
     longest = max(sender.latest_rtt, sender.smoothed_rtt)
-    if 8 * delay >= 9 * longest + 8:
+    eighths = int(8 * sender.settings.time_threshold)
+    if 8 * delay >= eighths * longest + 8:
         return "kGranularity"
     is_smoothed = sender.latest_rtt < sender.smoothed_rtt
-    return f"9/8 of {'smoothed_rtt' if is_smoothed else 'latest_rtt'} {longest}"
+    return f"{eighths}/8 of {'smoothed_rtt' if is_smoothed else 'latest_rtt'} {longest}"
 
 
 # Reported values.

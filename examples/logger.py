@@ -11,6 +11,11 @@ from typing import Any, TextIO
 Ranges = list[tuple[int, int]]
 
 
+def text_of(line: dict[str, Any]) -> str:
+    """A line without white space, which is read quickest."""
+    return json.dumps(line, separators=(",", ":"))
+
+
 class Logger:
     """Keeps the lines of a connection until it ends, since the header may be known late."""
 
@@ -21,7 +26,7 @@ class Logger:
         self.lines: list[str] = []
 
     def _event(self, event: str, time: int, **keys: Any) -> None:
-        self.lines.append(json.dumps({"event": event, "time": time, **keys}))
+        self.lines.append(text_of({"event": event, "time": time, **keys}))
 
     def sent(self, time: int, space: str, number: int, size: int, **keys: Any) -> None:
         """OnPacketSent (A.5), with `eliciting`, `in_flight`, and `leave` where it is a probe."""
@@ -53,7 +58,7 @@ class Logger:
 
     def write(self, file: TextIO) -> None:
         """Writes the trace, at the end of the connection."""
-        header = json.dumps({"event": "header", **self.header})
+        header = text_of({"event": "header", **self.header})
         file.write("".join(f"{line}\n" for line in [header, *self.lines]))
 
 

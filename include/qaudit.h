@@ -19,8 +19,8 @@
  * In C++ write `qaudit_packet packet{};`, which is all zero, and set its members: the names in braces need C++20,
  * and `-Wextra` warns about those that are left out.
  *
- * Link libqaudit.a. It needs malloc, realloc, free, memcpy, memmove and memset of the C library, and nothing
- * else. No function here prints, exits, blocks, starts a thread or keeps a global variable.
+ * Link libqaudit.a. It needs malloc, realloc, free, memcpy, memmove and memset of the C library, the division of
+ * 128-bit numbers that each compiler links by itself (__udivti3 of libgcc or compiler-rt), and nothing else. No function here prints, exits, blocks, starts a thread or keeps a global variable.
  *
  * Caller's obligations, which are not checked:
  *   - A `qaudit` is all zero (`qaudit q = {0};`, in C++ `qaudit q{};`), or what these functions last left in it.
@@ -67,6 +67,15 @@ enum {
  * Returns QAUDIT_OPEN, or QAUDIT_CLOSED if there is no memory. */
 qaudit_status_t qaudit_open(qaudit *q);
 
+/* Opens `q` as qaudit_open does, for an audit that keeps the text of what it is handed, so that qaudit_why
+ * and qaudit_around can say why a trace is refused: pieces as they are, and for an event the line of a trace that
+ * says it. Memory grows by about the text of the trace, 100 to 150 bytes per event, until the verdict is fixed.
+ *
+ * If there is no memory for more text, the audit goes on without it: what was kept is given back, and qaudit_why,
+ * qaudit_around and qaudit_allowed return 0 from then on. So it does after an event with so many ranges that its
+ * line, written with all its keys, has more than 65,536 bytes. */
+qaudit_status_t qaudit_open_recorded(qaudit *q);
+
 /* Closes `q` and gives its memory back. A closed one stays closed. */
 void qaudit_close(qaudit *q);
 
@@ -95,6 +104,7 @@ enum { QAUDIT_CLIENT = 0, QAUDIT_SERVER = 1 };                      /* roles */
 enum { QAUDIT_MICROSECONDS = 0, QAUDIT_NANOSECONDS = 1 };           /* units of times */
 enum { QAUDIT_NEWRENO = 0, QAUDIT_REPORTED = 1 };                   /* whose congestion window counts */
 enum { QAUDIT_MUST = 0, QAUDIT_MAY = 1 };                           /* packets past the threshold are lost, or may be */
+enum { QAUDIT_NUMBERS = 0, QAUDIT_PACKETS = 1 };                    /* what the packet threshold counts */
 
 /* A header (docs/format.md, "Header"), of version 3. A value with a `has_` flag counts if the flag is set;
  * otherwise it is the default. So all zero, except for max_datagram_size, means the same as a header of
@@ -109,18 +119,24 @@ typedef struct qaudit_trace_header {
     uint64_t report_slack_us;    /* by how many microseconds a reported time may differ, 0 to 1000000000 */
     uint64_t report_slack_bytes; /* by how many bytes reported bytes may differ, 0 to 4294967295 */
     uint64_t packet_threshold;   /* kPacketThreshold, 3 to 65535; else 3 */
+    uint64_t time_threshold_eighths; /* kTimeThreshold in eighths of the RTT, 9 to 32; else 9 */
     uint32_t role;               /* QAUDIT_CLIENT or QAUDIT_SERVER */
     uint32_t unit;               /* QAUDIT_MICROSECONDS or QAUDIT_NANOSECONDS */
     uint32_t window;             /* QAUDIT_NEWRENO or QAUDIT_REPORTED */
     uint32_t loss_by_number;     /* QAUDIT_MUST, or QAUDIT_MAY if the window is a reported one */
+    uint32_t threshold_counts;   /* QAUDIT_NUMBERS or QAUDIT_PACKETS */
     bool has_max_ack_delay;
     bool has_initial_rtt;
     bool has_initial_window;
     bool has_timer_late_us;
     bool has_packet_threshold;
+    bool has_time_threshold_eighths;
     bool refresh_min_rtt;        /* persistent congestion sets min_rtt to the latest sample */
     bool window_overshoot;       /* a packet may be sent whenever the bytes in flight are below the window */
     bool sample_eliciting_only;  /* a sample of the RTT needs an ack-eliciting largest packet */
+    bool reset_rtt;              /* persistent congestion resets the estimate of the RTT */
+    bool latest_rtt_less_delay;  /* latest_rtt is a sample less the peer's delay, but for the first */
+    bool recovery_by_order;      /* the order of the lines, and not their times, says what was sent in recovery */
 } qaudit_trace_header;
 
 /* Takes the header. */
@@ -255,7 +271,34 @@ size_t qaudit_report(qaudit *q, uint8_t *out, size_t room);
 /* The first line of the report, with its LF: at most 100 bytes. */
 size_t qaudit_first_line(qaudit *q, uint8_t *out, size_t room);
 
-/* The name of a rule, 1 for V1 to 19; of a fault, 1 for F1 to 11; and of a key, 1 to 36. At most 21 bytes. */
+/* Why the trace is refused or unreadable, or what its acceptance rests on: the text that `qaudit-why` writes of
+ * what was recorded so far, as a trace on standard input that ends there (docs/why.md). It takes as long as
+ * qaudit_feed takes for that text. 0 if `q` was not opened by qaudit_open_recorded, or there is no memory. */
+size_t qaudit_why(qaudit *q, uint8_t *out, size_t room);
+
+/* The same with the state of the model after each of the last `rows` lines before, as `qaudit-why --around`
+ * writes it. */
+size_t qaudit_around(qaudit *q, uint16_t rows, uint8_t *out, size_t room);
+
+/* What the header of an accepted trace allowed past a rule, as `qaudit-why` lists it below `accepted`. */
+typedef struct qaudit_allowance {
+    uint64_t count;    /* how many events went past the rule */
+    uint64_t first;    /* the line of the first, counted from 1, each event a line */
+    uint64_t last;     /* the line of the last */
+    uint64_t greatest; /* how far one went past it at most: in bytes at V7, at V19 and for reported bytes, else in the unit */
+    uint64_t limit;    /* how far the header allows it, in the same; 0 without has_limit */
+    uint32_t rule;     /* 7, 13, 16, 18 or 19 */
+    uint32_t subject;  /* at V16 the reported value, for qaudit_key_name; or 0 */
+    uint32_t key;      /* the key of the header that allows it, for qaudit_key_name */
+    bool has_limit;    /* false at V7, and at V18 if the header sets no limit for late timers */
+} qaudit_allowance;
+
+/* Writes these to the front of `out` in the order of the rules, if `room` is at least how many they are; otherwise
+ * `out` stays as it was. Returns how many they are, 14 at most. 0 if nothing was allowed, if what was recorded so far is
+ * not accepted as a trace that ends there, if `q` was not opened by qaudit_open_recorded, or if there is no memory. */
+size_t qaudit_allowed(qaudit *q, qaudit_allowance *out, size_t room);
+
+/* The name of a rule, 1 for V1 to 19; of a fault, 1 for F1 to 11; and of a key, 1 to 41. At most 22 bytes. */
 size_t qaudit_rule_name(uint32_t rule, uint8_t *out, size_t room);
 size_t qaudit_fault_name(uint32_t fault, uint8_t *out, size_t room);
 size_t qaudit_key_name(uint32_t key, uint8_t *out, size_t room);

@@ -94,6 +94,13 @@ type Header struct {
 	RefreshMinRTT       bool
 	WindowOvershoot     bool
 	SampleElicitingOnly bool
+	CountsPackets       bool // the packet threshold counts packets, and not their numbers
+	ResetRTT            bool // persistent congestion resets the estimate of the RTT
+	LatestRTTLessDelay  bool // the latest RTT is a sample less the peer's delay
+	RecoveryByOrder     bool // the order of the lines, and not their times, says what was sent in recovery
+
+	// kTimeThreshold in eighths of the RTT, 9 to 32; else 9.
+	TimeThresholdEighths *uint64
 }
 
 // A Packet is one that was sent.
@@ -140,10 +147,30 @@ type Auditor struct {
 	q    C.qaudit
 }
 
+// An Allowance is what the header of an accepted trace allowed past a rule: its number and name, at V16 the reported
+// value, and the key that allows it; how many events went past the rule, on which lines, and how far at most; and how far
+// the header allows it, nil where it sets no limit.
+type Allowance struct {
+	Rule                         uint32
+	Name, Subject, Key           string
+	Count, First, Last, Greatest uint64
+	Limit                        *uint64
+}
+
 // New opens an audit of what has this header; of which nothing is known yet where it is nil.
 func New(header *Header) (*Auditor, error) {
+	return opened(header, func(q *C.qaudit) C.qaudit_status_t { return C.qaudit_open(q) })
+}
+
+// NewRecorded opens an audit as New does, which keeps the text of what it is handed, for Why, Around and Allowed: about
+// 100 to 150 bytes per event.
+func NewRecorded(header *Header) (*Auditor, error) {
+	return opened(header, func(q *C.qaudit) C.qaudit_status_t { return C.qaudit_open_recorded(q) })
+}
+
+func opened(header *Header, open func(q *C.qaudit) C.qaudit_status_t) (*Auditor, error) {
 	a := &Auditor{}
-	if C.qaudit_open(&a.q) != C.QAUDIT_OPEN {
+	if open(&a.q) != C.QAUDIT_OPEN {
 		return nil, ErrMemory
 	}
 	runtime.SetFinalizer(a, (*Auditor).Close)
@@ -234,12 +261,17 @@ func (a *Auditor) Header(header *Header) (Progress, error) {
 		refresh_min_rtt:       C.bool(header.RefreshMinRTT),
 		window_overshoot:      C.bool(header.WindowOvershoot),
 		sample_eliciting_only: C.bool(header.SampleElicitingOnly),
+		threshold_counts:      flag(header.CountsPackets),
+		reset_rtt:             C.bool(header.ResetRTT),
+		latest_rtt_less_delay: C.bool(header.LatestRTTLessDelay),
+		recovery_by_order:     C.bool(header.RecoveryByOrder),
 	}
 	h.max_ack_delay, h.has_max_ack_delay = given(header.MaxAckDelay)
 	h.initial_rtt, h.has_initial_rtt = given(header.InitialRTT)
 	h.initial_window, h.has_initial_window = given(header.InitialWindow)
 	h.timer_late_us, h.has_timer_late_us = given(header.TimerLateUs)
 	h.packet_threshold, h.has_packet_threshold = given(header.PacketThreshold)
+	h.time_threshold_eighths, h.has_time_threshold_eighths = given(header.TimeThresholdEighths)
 	return a.take(func() C.qaudit_status_t { return C.qaudit_header(&a.q, &h) })
 }
 
@@ -366,8 +398,61 @@ func (a *Auditor) FirstLine() string {
 	return strings.TrimSpace(text(func(at *C.uint8_t, room C.size_t) C.size_t { return C.qaudit_first_line(&a.q, at, room) }))
 }
 
+// Why returns why it is refused, as `qaudit-why` writes it; nothing if it was not recorded.
+func (a *Auditor) Why() string {
+	a.lock.Lock()
+	defer a.lock.Unlock()
+	return text(func(at *C.uint8_t, room C.size_t) C.size_t { return C.qaudit_why(&a.q, at, room) })
+}
+
+// Around returns the same with the state of the model after each of the last rows lines before.
+func (a *Auditor) Around(rows uint16) string {
+	a.lock.Lock()
+	defer a.lock.Unlock()
+	return text(func(at *C.uint8_t, room C.size_t) C.size_t { return C.qaudit_around(&a.q, C.uint16_t(rows), at, room) })
+}
+
+// Allowed returns what the header allowed, if what was recorded is accepted; nothing if it allowed nothing.
+func (a *Auditor) Allowed() []Allowance {
+	var all [14]C.qaudit_allowance
+	a.lock.Lock()
+	count := C.qaudit_allowed(&a.q, &all[0], C.size_t(len(all)))
+	a.lock.Unlock()
+	var allowed []Allowance
+	for _, it := range all[:count] {
+		allowed = append(allowed, allowance(it))
+	}
+	return allowed
+}
+
+func allowance(it C.qaudit_allowance) Allowance {
+	key := func(number C.uint32_t) string {
+		return text(func(at *C.uint8_t, room C.size_t) C.size_t { return C.qaudit_key_name(number, at, room) })
+	}
+	allowed := Allowance{
+		Rule:     uint32(it.rule),
+		Name:     text(func(at *C.uint8_t, room C.size_t) C.size_t { return C.qaudit_rule_name(it.rule, at, room) }),
+		Subject:  key(it.subject),
+		Key:      key(it.key),
+		Count:    uint64(it.count),
+		First:    uint64(it.first),
+		Last:     uint64(it.last),
+		Greatest: uint64(it.greatest),
+	}
+	if it.has_limit {
+		limit := uint64(it.limit)
+		allowed.Limit = &limit
+	}
+	return allowed
+}
+
+// text returns a text that is put into a buffer, again into a longer one if it has no room there.
 func text(put func(at *C.uint8_t, room C.size_t) C.size_t) string {
-	out := make([]byte, 1024)
+	out := make([]byte, 4096)
 	count := put((*C.uint8_t)(unsafe.Pointer(&out[0])), C.size_t(len(out)))
+	if int(count) > len(out) {
+		out = make([]byte, count)
+		count = put((*C.uint8_t)(unsafe.Pointer(&out[0])), C.size_t(len(out)))
+	}
 	return string(out[:count])
 }

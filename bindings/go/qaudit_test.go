@@ -41,6 +41,64 @@ func TestEachReportIsThatOfTheCorpus(t *testing.T) {
 	}
 }
 
+func TestEachReasonIsThatOfTheCorpus(t *testing.T) {
+	reasons, _ := filepath.Glob("../../conformance/traces/*.why")
+	if len(reasons) == 0 {
+		t.Fatal("there are no reasons")
+	}
+	for _, reason := range reasons {
+		trace := strings.TrimSuffix(reason, "why") + "trace"
+		bytes, _ := os.ReadFile(trace)
+		why, _ := os.ReadFile(reason)
+		wanted := strings.Replace(string(why), filepath.Base(trace), "-", 1)
+		a, err := NewRecorded(nil)
+		if err != nil {
+			t.Fatal(err)
+		}
+		a.Feed(bytes)
+		if _, err := a.Finish(); err != nil || a.Why() != wanted || a.Around(0) != wanted || !strings.HasPrefix(a.Around(3), wanted) {
+			t.Errorf("%s: %q", trace, a.Why())
+		}
+		a.Close()
+	}
+}
+
+func TestAnEventIsItsLine(t *testing.T) {
+	a, err := NewRecorded(&Header{Role: Server, MaxDatagramSize: 1200})
+	if err != nil {
+		t.Fatal(err)
+	}
+	a.Timer(5, ProbeTimer, App)
+	lines := strings.Split(a.Why(), "\n")
+	if !strings.HasPrefix(lines[0], "-:2: refused V11 timer-not-set") || lines[1] != `  2 | {"event":"timer","kind":"pto","space":"app","time":5}` {
+		t.Errorf("%q", lines)
+	}
+}
+
+func TestWhatWasAllowed(t *testing.T) {
+	header := Header{Role: Server, MaxDatagramSize: 1200, ReportSlackUs: 10}
+	a, err := NewRecorded(&header)
+	if err != nil {
+		t.Fatal(err)
+	}
+	for time, rtt := range []uint64{333007, 333002} {
+		rtt := rtt
+		a.Metrics(uint64(time), &Metrics{SmoothedRTT: &rtt})
+	}
+	allowed := a.Allowed()
+	if len(allowed) != 1 || *allowed[0].Limit != 10 {
+		t.Fatalf("%v", allowed)
+	}
+	allowed[0].Limit = nil
+	if allowed[0] != (Allowance{16, "metric", "smoothed_rtt", "report_slack_us", 2, 2, 3, 7, nil}) {
+		t.Errorf("%v", allowed)
+	}
+	other, err := New(&header)
+	if err != nil || other.Why() != "" || other.Around(3) != "" || other.Allowed() != nil {
+		t.Errorf("%v %q", err, other.Why())
+	}
+}
+
 func TestAFullWindow(t *testing.T) {
 	a, err := New(&Header{Role: Server, MaxDatagramSize: 1200})
 	if err != nil {

@@ -8,6 +8,9 @@
                 break
         print(auditor.first_line())    # refused line 12 V7 past-window
 
+With `recorded=True` the auditor keeps the text of what it is handed, and says why: `why`, `around`
+and `allowed`.
+
 It loads `libqaudit.so`, which `make lib` makes of `libqaudit.a`: the one that QAUDIT_LIB names, or
 else that in `bin/` of the repository or `lib/` of a release, or else one that the system finds.
 """
@@ -23,6 +26,7 @@ from ctypes import (
     c_bool,
     c_size_t,
     c_uint8,
+    c_uint16,
     c_uint32,
     c_uint64,
     c_void_p,
@@ -40,6 +44,7 @@ ROLES = {"client": 0, "server": 1}
 UNITS = {"us": 0, "ns": 1}
 WINDOWS = {"newreno": 0, "reported": 1}
 LOSSES = {"must": 0, "may": 1}
+COUNTS = {"numbers": 0, "packets": 1}
 METRICS = (
     "window",
     "ssthresh",
@@ -61,7 +66,8 @@ TOTALS = (
     "pto_count",
     "owed",
 )
-ROOM = 1024
+ROOM = 4096
+MOST_ALLOWED = 14
 
 
 class Progress(IntEnum):
@@ -105,6 +111,11 @@ class Header:
     refresh_min_rtt: bool = False
     window_overshoot: bool = False
     sample_eliciting_only: bool = False
+    threshold_counts: str = "numbers"
+    reset_rtt: bool = False
+    latest_rtt_less_delay: bool = False
+    time_threshold_eighths: int | None = None
+    recovery_by_order: bool = False
 
 
 @dataclass(frozen=True)
@@ -118,6 +129,24 @@ class Verdict:
     name: str
     subject: str
     totals: dict[str, int | None] | None
+
+
+@dataclass(frozen=True)
+class Allowance:
+    """What the header of an accepted trace allowed past a rule: the number of the rule and its
+    name, at V16 the reported value, the key of the header that allows it, how many events went past
+    the rule and on which lines, how far at most, and how far the header allows it if it sets a
+    limit."""
+
+    rule: int
+    name: str
+    subject: str
+    key: str
+    count: int
+    first: int
+    last: int
+    greatest: int
+    limit: int | None
 
 
 class _Qaudit(Structure):
@@ -135,18 +164,24 @@ class _Header(Structure):
         ("report_slack_us", c_uint64),
         ("report_slack_bytes", c_uint64),
         ("packet_threshold", c_uint64),
+        ("time_threshold_eighths", c_uint64),
         ("role", c_uint32),
         ("unit", c_uint32),
         ("window", c_uint32),
         ("loss_by_number", c_uint32),
+        ("threshold_counts", c_uint32),
         ("has_max_ack_delay", c_bool),
         ("has_initial_rtt", c_bool),
         ("has_initial_window", c_bool),
         ("has_timer_late_us", c_bool),
         ("has_packet_threshold", c_bool),
+        ("has_time_threshold_eighths", c_bool),
         ("refresh_min_rtt", c_bool),
         ("window_overshoot", c_bool),
         ("sample_eliciting_only", c_bool),
+        ("reset_rtt", c_bool),
+        ("latest_rtt_less_delay", c_bool),
+        ("recovery_by_order", c_bool),
     ]
 
 
@@ -202,6 +237,14 @@ class _Told(Structure):
     ]
 
 
+class _Allowance(Structure):
+    _fields_ = [
+        *((name, c_uint64) for name in ("count", "first", "last", "greatest", "limit")),
+        *((name, c_uint32) for name in ("rule", "subject", "key")),
+        ("has_limit", c_bool),
+    ]
+
+
 def _place() -> str:
     """The library that is loaded."""
     if named := os.environ.get("QAUDIT_LIB"):
@@ -217,6 +260,7 @@ def _loaded() -> ctypes.CDLL:
     q, text = POINTER(_Qaudit), POINTER(c_uint8)
     status: dict[str, list[type]] = {
         "open": [q],
+        "open_recorded": [q],
         "feed": [q, ctypes.c_char_p, c_size_t],
         "header": [q, POINTER(_Header)],
         "sent": [q, POINTER(_Packet)],
@@ -232,6 +276,9 @@ def _loaded() -> ctypes.CDLL:
     texts: dict[str, list[type]] = {
         "report": [q, text, c_size_t],
         "first_line": [q, text, c_size_t],
+        "why": [q, text, c_size_t],
+        "around": [q, c_uint16, text, c_size_t],
+        "allowed": [q, POINTER(_Allowance), c_size_t],
         **{f"{what}_name": [c_uint32, text, c_size_t] for what in ("rule", "fault", "key")},
     }
     for name in (*status, *texts):
@@ -271,14 +318,16 @@ def _name(what: str, number: int) -> str:
 
 
 class Auditor:
-    """An audit that is handed bytes and events. Threads may share it: a call waits for another."""
+    """An audit that is handed bytes and events. Threads may share it: a call waits for another.
 
-    def __init__(self, header: Header | None = None) -> None:
+    One that is `recorded` keeps the text of what it is handed: about 100 to 150 bytes per event."""
+
+    def __init__(self, header: Header | None = None, *, recorded: bool = False) -> None:
         # The library has one call at a time, and ctypes lets other threads run meanwhile. A signal
         # may come while the lock is held, and its handler may make a call.
         self._lock = threading.RLock()
         self._q = _Qaudit()
-        self._take("open")
+        self._take("open_recorded" if recorded else "open")
         if header is not None:
             self.header(header)
 
@@ -326,9 +375,13 @@ class Auditor:
             unit=_number(UNITS, header.unit),
             window=_number(WINDOWS, header.window),
             loss_by_number=_number(LOSSES, header.loss_by_number),
+            threshold_counts=_number(COUNTS, header.threshold_counts),
             refresh_min_rtt=header.refresh_min_rtt,
             window_overshoot=header.window_overshoot,
             sample_eliciting_only=header.sample_eliciting_only,
+            reset_rtt=header.reset_rtt,
+            latest_rtt_less_delay=header.latest_rtt_less_delay,
+            recovery_by_order=header.recovery_by_order,
         )
         for name in (
             "max_ack_delay",
@@ -336,6 +389,7 @@ class Auditor:
             "initial_window",
             "timer_late_us",
             "packet_threshold",
+            "time_threshold_eighths",
         ):
             self._give(raw, name, getattr(header, name))
         return self._take("header", byref(raw))
@@ -455,7 +509,40 @@ class Auditor:
         """The first line of the report; empty where no verdict is known."""
         return self._text("first_line").rstrip()
 
-    def _text(self, name: str) -> str:
-        out = (c_uint8 * ROOM)()
-        count = self._call(name, out, ROOM)
+    def why(self) -> str:
+        """Why it is refused, as `qaudit-why` writes it; empty if nothing was recorded."""
+        return self._text("why")
+
+    def around(self, rows: int) -> str:
+        """The same with the state after each of the last `rows` lines before, 65535 at most."""
+        if not 0 <= rows < 2**16:
+            raise QauditError(ERRORS[5])
+        return self._text("around", rows)
+
+    def allowed(self) -> list[Allowance]:
+        """What the header allowed, if what was recorded is accepted; empty if nothing."""
+        out = (_Allowance * MOST_ALLOWED)()
+        count = self._call("allowed", out, MOST_ALLOWED)
+        return [
+            Allowance(
+                rule=it.rule,
+                name=_name("rule", it.rule),
+                subject=_name("key", it.subject),
+                key=_name("key", it.key),
+                count=it.count,
+                first=it.first,
+                last=it.last,
+                greatest=it.greatest,
+                limit=it.limit if it.has_limit else None,
+            )
+            for it in out[:count]
+        ]
+
+    def _text(self, name: str, *words: object) -> str:
+        with self._lock:
+            out = (c_uint8 * ROOM)()
+            count = self._call(name, *words, out, ROOM)
+            if count > ROOM:
+                out = (c_uint8 * count)()
+                count = self._call(name, *words, out, count)
         return bytes(out[:count]).decode()

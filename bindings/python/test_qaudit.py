@@ -5,7 +5,7 @@ import threading
 import unittest
 from pathlib import Path
 
-from qaudit import Auditor, Header, Progress, QauditError
+from qaudit import Allowance, Auditor, Header, Progress, QauditError
 
 TRACES = Path(__file__).resolve().parent.parent.parent / "conformance" / "traces"
 
@@ -25,6 +25,49 @@ class Corpus(unittest.TestCase):
                             break
                     auditor.finish()
                     self.assertEqual(auditor.report(), report)
+
+
+class Reasons(unittest.TestCase):
+    def test_each_reason_is_that_of_the_corpus(self) -> None:
+        reasons = sorted(TRACES.glob("*.why"))
+        self.assertTrue(reasons)
+        for reason in reasons:
+            trace = reason.with_suffix(".trace")
+            wanted = reason.read_bytes().replace(trace.name.encode(), b"-", 1)
+            with self.subTest(trace=trace.stem), Auditor(recorded=True) as auditor:
+                auditor.feed(trace.read_bytes())
+                auditor.finish()
+                self.assertEqual(auditor.why().encode(), wanted)
+                self.assertEqual(auditor.around(0), auditor.why())
+                self.assertTrue(auditor.around(3).encode().startswith(wanted))
+
+    def test_an_event_is_its_line(self) -> None:
+        auditor = Auditor(Header(role="server", max_datagram_size=1200), recorded=True)
+        for number in range(11):
+            auditor.sent(number, "app", number, 1200)
+        line = '{"eliciting":true,"event":"sent","in_flight":true,"leave":"window","number":10,'
+        line += '"size":1200,"space":"app","time":10}'
+        first, said, *_ = auditor.why().splitlines()
+        self.assertTrue(first.startswith("-:12: refused V7 past-window: packet 10 of app"), first)
+        self.assertEqual(said, f"  12 | {line}")
+        rows = [line for line in auditor.around(2).splitlines() if line.startswith("  line ")]
+        heads = [row.split(":")[0] for row in rows]
+        self.assertEqual(heads, ["  line 10 sent at 8", "  line 11 sent at 9"])
+        self.assertRaises(QauditError, lambda: auditor.around(2**16))
+
+    def test_what_was_allowed(self) -> None:
+        header = Header(role="server", max_datagram_size=1200, report_slack_us=10)
+        auditor = Auditor(header, recorded=True)
+        auditor.metrics(0, smoothed_rtt=333_007)
+        auditor.metrics(1, smoothed_rtt=333_002)
+        wanted = Allowance(16, "metric", "smoothed_rtt", "report_slack_us", 2, 2, 3, 7, 10)
+        self.assertEqual(auditor.allowed(), [wanted])
+        self.assertTrue(auditor.why().startswith("-: accepted"), auditor.why())
+
+    def test_nothing_is_recorded_unless_asked_for(self) -> None:
+        auditor = Auditor(Header(role="server", max_datagram_size=1200))
+        auditor.timer(0, "pto", "app")
+        self.assertEqual((auditor.why(), auditor.around(3), auditor.allowed()), ("", "", []))
 
 
 class Events(unittest.TestCase):

@@ -199,6 +199,7 @@ OPTIONS = (
 # Those that have one in version 3 alone: behind the unit, and at the end.
 REPORTED = '"reported"'
 MAY, MUST = '"may"', '"must"'
+NUMBERS = '"numbers"'
 WINDOW = Key(
     "window", (REPORTED, '"newreno"'), NOT_STRING,
     (
@@ -220,6 +221,18 @@ CHOICES = (
         ),
         MUST,
     ),
+    Key(
+        "threshold_counts", ('"packets"', NUMBERS), NOT_STRING,
+        (
+            '"Packets"', '"PACKETS"', '"packet"', '"packets "', '" numbers"', '"number"',
+            '"Numbers"', '""', '"both"', '"3"', MUST,
+        ),
+        NUMBERS,
+    ),
+    Key("reset_rtt", ("true", "false"), NOT_BOOLEAN, absent="false"),
+    Key("latest_rtt_less_delay", ("true", "false"), NOT_BOOLEAN, absent="false"),
+    Key("time_threshold_eighths", ("10", "9", "32"), NOT_INTEGER, ("8", "0", "33", MAX), "9"),
+    Key("recovery_by_order", ("true", "false"), NOT_BOOLEAN, absent="false"),
 )
 
 # The tables, without the key `event`, by the names of their files. The usual initial window is one

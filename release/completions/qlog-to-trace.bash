@@ -10,13 +10,15 @@ _qlog_to_trace() {
         --unit) words='us ns' ;;
         --window) words='newreno reported' ;;
         --loss-by-number) words='must may' ;;
-        --window-overshoot | --sample-eliciting-only | --refresh-min-rtt) words='yes no' ;;
-        --connection | --timer-late | --timer-late-us | --slack-us | --slack-bytes | --packet-threshold | --timer-early-us) return ;;
+        --threshold-counts) words='numbers packets' ;;
+        --window-overshoot | --sample-eliciting-only | --refresh-min-rtt | --reset-rtt | --latest-rtt-less-delay | --recovery-by-order) words='yes no' ;;
+        --connection | --timer-late | --timer-late-us | --slack-us | --slack-bytes | --packet-threshold | --timer-early-us | --time-threshold-eighths) return ;;
     esac
     if [ -z "$words" ] && [[ $current == -* ]]; then
         words='--format --version --vantage --connection --dialect --notes --timer-late --timer-late-us --refresh-min-rtt
             --slack-us --slack-bytes --unit --window --window-overshoot --sample-eliciting-only
-            --packet-threshold --timer-early-us --loss-by-number --help'
+            --packet-threshold --timer-early-us --loss-by-number --threshold-counts --reset-rtt
+            --latest-rtt-less-delay --time-threshold-eighths --recovery-by-order --help'
     fi
     if [ -n "$words" ]; then
         mapfile -t COMPREPLY < <(compgen -W "$words" -- "$current")

@@ -96,6 +96,16 @@ pub struct Header {
     pub refresh_min_rtt: bool,
     pub window_overshoot: bool,
     pub sample_eliciting_only: bool,
+    /// The packet threshold counts packets, and not their numbers.
+    pub counts_packets: bool,
+    /// Persistent congestion resets the estimate of the RTT.
+    pub reset_rtt: bool,
+    /// The latest RTT is a sample less the peer's delay, but for the first.
+    pub latest_rtt_less_delay: bool,
+    /// `kTimeThreshold` in eighths of the RTT, 9 to 32; else 9.
+    pub time_threshold_eighths: Option<u64>,
+    /// The order of the lines, and not their times, says what was sent in recovery.
+    pub recovery_by_order: bool,
 }
 
 impl Header {
@@ -118,6 +128,11 @@ impl Header {
             refresh_min_rtt: false,
             window_overshoot: false,
             sample_eliciting_only: false,
+            counts_packets: false,
+            reset_rtt: false,
+            latest_rtt_less_delay: false,
+            time_threshold_eighths: None,
+            recovery_by_order: false,
         }
     }
 }
@@ -234,6 +249,25 @@ pub enum Verdict {
     Unreadable { line: u64, fault: Cause, totals: Option<Totals> },
 }
 
+/// What the header of an accepted trace allowed past a rule.
+#[derive(Clone, Debug, PartialEq, Eq)]
+pub struct Allowance {
+    /// The rule, and at V16 the reported value.
+    pub rule: Cause,
+    /// The key of the header that allows it.
+    pub key: String,
+    /// How many events went past the rule.
+    pub count: u64,
+    /// The line of the first.
+    pub first: u64,
+    /// The line of the last.
+    pub last: u64,
+    /// How far one went past it at most, in bytes or in the unit of times.
+    pub greatest: u64,
+    /// How far the header allows it, in the same; `None` if it sets no limit.
+    pub limit: Option<u64>,
+}
+
 /// An audit that is handed bytes and events.
 ///
 /// It may go to another thread:
@@ -269,14 +303,20 @@ impl Auditor {
 
     /// An audit of which nothing is known yet: the text of a trace is fed, or a header comes first.
     pub fn without_header() -> Result<Auditor, Error> {
-        let mut auditor = Auditor(raw::Qaudit {
-            at: null_mut(),
-            is_open: false,
-        });
-        match unsafe { raw::qaudit_open(&mut auditor.0) } {
-            0 => Ok(auditor),
-            _ => Err(Error::OutOfMemory),
-        }
+        opened(raw::qaudit_open)
+    }
+
+    /// An audit of what has this header, which keeps the text of what it is handed, for [`why`](Auditor::why),
+    /// [`around`](Auditor::around) and [`allowed`](Auditor::allowed): about 100 to 150 bytes per event.
+    pub fn recorded(header: &Header) -> Result<Auditor, Error> {
+        let mut auditor = Auditor::recorded_without_header()?;
+        auditor.header(header)?;
+        Ok(auditor)
+    }
+
+    /// The same of which nothing is known yet.
+    pub fn recorded_without_header() -> Result<Auditor, Error> {
+        opened(raw::qaudit_open_recorded)
     }
 
     /// Takes the next bytes of a trace, which may be any part of it.
@@ -296,18 +336,24 @@ impl Auditor {
             report_slack_us: header.report_slack_us,
             report_slack_bytes: header.report_slack_bytes,
             packet_threshold: header.packet_threshold.unwrap_or(0),
+            time_threshold_eighths: header.time_threshold_eighths.unwrap_or(0),
             role: header.role as u32,
             unit: header.unit as u32,
             window: header.window as u32,
             loss_by_number: u32::from(header.may_be_lost),
+            threshold_counts: u32::from(header.counts_packets),
             has_max_ack_delay: header.max_ack_delay.is_some(),
             has_initial_rtt: header.initial_rtt.is_some(),
             has_initial_window: header.initial_window.is_some(),
             has_timer_late_us: header.timer_late_us.is_some(),
             has_packet_threshold: header.packet_threshold.is_some(),
+            has_time_threshold_eighths: header.time_threshold_eighths.is_some(),
             refresh_min_rtt: header.refresh_min_rtt,
             window_overshoot: header.window_overshoot,
             sample_eliciting_only: header.sample_eliciting_only,
+            reset_rtt: header.reset_rtt,
+            latest_rtt_less_delay: header.latest_rtt_less_delay,
+            recovery_by_order: header.recovery_by_order,
         };
         told(unsafe { raw::qaudit_header(&mut self.0, &raw) })
     }
@@ -452,6 +498,54 @@ impl Auditor {
         let line = text(|at, room| unsafe { raw::qaudit_first_line(&mut self.0, at, room) });
         line.trim_end().to_owned()
     }
+
+    /// Why it is refused, as `qaudit-why` writes it; empty if nothing was recorded.
+    pub fn why(&mut self) -> String {
+        text(|at, room| unsafe { raw::qaudit_why(&mut self.0, at, room) })
+    }
+
+    /// The same with the state of the model after each of the last `rows` lines before.
+    pub fn around(&mut self, rows: u16) -> String {
+        text(|at, room| unsafe { raw::qaudit_around(&mut self.0, rows, at, room) })
+    }
+
+    /// What the header allowed, if what was recorded is accepted; empty if it allowed nothing.
+    pub fn allowed(&mut self) -> Vec<Allowance> {
+        let mut all = [raw::Allowance::default(); MOST_ALLOWED];
+        let count = unsafe { raw::qaudit_allowed(&mut self.0, all.as_mut_ptr(), all.len()) };
+        all[..count].iter().map(allowance).collect()
+    }
+}
+
+/// How many allowances there are at most.
+const MOST_ALLOWED: usize = 14;
+
+fn allowance(raw: &raw::Allowance) -> Allowance {
+    let key = |number| text(|at, room| unsafe { raw::qaudit_key_name(number, at, room) });
+    Allowance {
+        rule: Cause {
+            number: raw.rule,
+            name: text(|at, room| unsafe { raw::qaudit_rule_name(raw.rule, at, room) }),
+            subject: (raw.subject != 0).then(|| key(raw.subject)),
+        },
+        key: key(raw.key),
+        count: raw.count,
+        first: raw.first,
+        last: raw.last,
+        greatest: raw.greatest,
+        limit: raw.has_limit.then_some(raw.limit),
+    }
+}
+
+fn opened(open: unsafe extern "C" fn(*mut raw::Qaudit) -> u32) -> Result<Auditor, Error> {
+    let mut auditor = Auditor(raw::Qaudit {
+        at: null_mut(),
+        is_open: false,
+    });
+    match unsafe { open(&mut auditor.0) } {
+        0 => Ok(auditor),
+        _ => Err(Error::OutOfMemory),
+    }
 }
 
 impl Drop for Auditor {
@@ -481,10 +575,14 @@ fn raw_ranges(ranges: &[RangeInclusive<u64>]) -> Vec<raw::Range> {
     ranges.iter().map(raw).collect()
 }
 
-/// A text that is put into a buffer which has room for it.
+/// A text that is put into a buffer, again into a longer one if it has no room there.
 fn text(mut put: impl FnMut(*mut u8, usize) -> usize) -> String {
-    let mut bytes = vec![0; 1024];
-    let count = put(bytes.as_mut_ptr(), bytes.len());
+    let mut bytes = vec![0; 4096];
+    let mut count = put(bytes.as_mut_ptr(), bytes.len());
+    if count > bytes.len() {
+        bytes.resize(count, 0);
+        count = put(bytes.as_mut_ptr(), bytes.len());
+    }
     bytes.truncate(count);
     String::from_utf8_lossy(&bytes).into_owned()
 }

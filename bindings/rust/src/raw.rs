@@ -18,18 +18,24 @@ pub struct Header {
     pub report_slack_us: u64,
     pub report_slack_bytes: u64,
     pub packet_threshold: u64,
+    pub time_threshold_eighths: u64,
     pub role: u32,
     pub unit: u32,
     pub window: u32,
     pub loss_by_number: u32,
+    pub threshold_counts: u32,
     pub has_max_ack_delay: bool,
     pub has_initial_rtt: bool,
     pub has_initial_window: bool,
     pub has_timer_late_us: bool,
     pub has_packet_threshold: bool,
+    pub has_time_threshold_eighths: bool,
     pub refresh_min_rtt: bool,
     pub window_overshoot: bool,
     pub sample_eliciting_only: bool,
+    pub reset_rtt: bool,
+    pub latest_rtt_less_delay: bool,
+    pub recovery_by_order: bool,
 }
 
 #[repr(C)]
@@ -98,8 +104,23 @@ pub struct Told {
     pub has_totals: bool,
 }
 
+#[repr(C)]
+#[derive(Clone, Copy, Default)]
+pub struct Allowance {
+    pub count: u64,
+    pub first: u64,
+    pub last: u64,
+    pub greatest: u64,
+    pub limit: u64,
+    pub rule: u32,
+    pub subject: u32,
+    pub key: u32,
+    pub has_limit: bool,
+}
+
 extern "C" {
     pub fn qaudit_open(q: *mut Qaudit) -> u32;
+    pub fn qaudit_open_recorded(q: *mut Qaudit) -> u32;
     pub fn qaudit_close(q: *mut Qaudit);
     pub fn qaudit_feed(q: *mut Qaudit, bytes: *const u8, count: usize) -> u32;
     pub fn qaudit_header(q: *mut Qaudit, header: *const Header) -> u32;
@@ -115,6 +136,9 @@ extern "C" {
     pub fn qaudit_verdict(q: *mut Qaudit, out: *mut Told) -> bool;
     pub fn qaudit_report(q: *mut Qaudit, out: *mut u8, room: usize) -> usize;
     pub fn qaudit_first_line(q: *mut Qaudit, out: *mut u8, room: usize) -> usize;
+    pub fn qaudit_why(q: *mut Qaudit, out: *mut u8, room: usize) -> usize;
+    pub fn qaudit_around(q: *mut Qaudit, rows: u16, out: *mut u8, room: usize) -> usize;
+    pub fn qaudit_allowed(q: *mut Qaudit, out: *mut Allowance, room: usize) -> usize;
     pub fn qaudit_rule_name(rule: u32, out: *mut u8, room: usize) -> usize;
     pub fn qaudit_fault_name(fault: u32, out: *mut u8, room: usize) -> usize;
     pub fn qaudit_key_name(key: u32, out: *mut u8, room: usize) -> usize;

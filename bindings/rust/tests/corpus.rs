@@ -1,5 +1,5 @@
 //! The traces of the conformance corpus: each report is that of the program.
-use qaudit::{Auditor, Error, Header, Metrics, Packet, Progress, Role, Space, TimerKind, Verdict};
+use qaudit::{Allowance, Auditor, Cause, Error, Header, Metrics, Packet, Progress, Role, Space, TimerKind, Verdict};
 use std::fs;
 use std::path::PathBuf;
 
@@ -26,6 +26,69 @@ fn each_report_is_that_of_the_corpus() {
             assert_eq!(auditor.report(), wanted, "{} by {piece}", path.display());
         }
     }
+}
+
+#[test]
+fn each_reason_is_that_of_the_corpus() {
+    let mut count = 0;
+    for path in traces() {
+        let Ok(why) = fs::read_to_string(path.with_extension("why")) else {
+            continue;
+        };
+        let wanted = why.replacen(path.file_name().unwrap().to_str().unwrap(), "-", 1);
+        let mut auditor = Auditor::recorded_without_header().unwrap();
+        auditor.feed(&fs::read(&path).unwrap()).unwrap();
+        auditor.finish().unwrap();
+        assert_eq!(auditor.why(), wanted, "{}", path.display());
+        assert_eq!(auditor.around(0), wanted);
+        assert!(auditor.around(3).starts_with(&wanted));
+        count += 1;
+    }
+    assert!(count > 0);
+}
+
+#[test]
+fn an_event_is_its_line() {
+    let mut auditor = Auditor::recorded(&Header::new(Role::Server, 1200)).unwrap();
+    for number in 0..11 {
+        auditor.sent(&Packet::new(number, Space::App, number, 1200)).unwrap();
+    }
+    let why = auditor.why();
+    assert!(why.starts_with("-:12: refused V7 past-window: packet 10 of app"), "{why}");
+    let line = r#"  12 | {"eliciting":true,"event":"sent","in_flight":true,"leave":"window","number":10,"size":1200,"space":"app","time":10}"#;
+    assert_eq!(why.lines().nth(1), Some(line));
+    assert_eq!(auditor.around(2).matches("\n  line ").count(), 2);
+}
+
+#[test]
+fn what_was_allowed_is_told() {
+    let mut header = Header::new(Role::Server, 1200);
+    header.report_slack_us = 10;
+    let mut auditor = Auditor::recorded(&header).unwrap();
+    for (time, rtt) in [(0, 333_007), (1, 333_002)] {
+        let metrics = Metrics {
+            smoothed_rtt: Some(rtt),
+            ..Metrics::default()
+        };
+        auditor.metrics(time, &metrics).unwrap();
+    }
+    let rule = Cause {
+        number: 16,
+        name: "metric".to_owned(),
+        subject: Some("smoothed_rtt".to_owned()),
+    };
+    let wanted = Allowance {
+        rule,
+        key: "report_slack_us".to_owned(),
+        count: 2,
+        first: 2,
+        last: 3,
+        greatest: 7,
+        limit: Some(10),
+    };
+    assert_eq!(auditor.allowed(), [wanted]);
+    let mut other = Auditor::new(&header).unwrap();
+    assert_eq!((other.why(), other.around(3), other.allowed()), (String::new(), String::new(), vec![]));
 }
 
 #[test]

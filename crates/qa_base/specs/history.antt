@@ -2,7 +2,6 @@
 -- makes of its packets.
 pub mod Sequence
 pub mod Parts
-pub mod Latest
 pub mod Oldest
 pub mod Sums
 pub mod Declared

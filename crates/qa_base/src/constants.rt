@@ -9,8 +9,8 @@ ghost use Rattle.qa_base.specs.values.Limits.{max_packet_size};
 /// one is lost (section 6.1.1).
 pub const DEFAULT_PACKET_THRESHOLD: u64 = 3;
 
-/// `kTimeThreshold` is 9/8 of the RTT (section 6.1.2): so many parts ..
-pub const TIME_THRESHOLD_PARTS: u64 = 9;
+/// `kTimeThreshold` where a header names none is 9/8 of the RTT (section 6.1.2): so many parts ..
+pub const DEFAULT_TIME_THRESHOLD_EIGHTHS: u64 = 9;
 
 /// .. of an RTT that is divided by this.
 pub const TIME_THRESHOLD_DIVISOR: u64 = 8;

@@ -1,21 +1,22 @@
 //! The header of a trace.
 ghost use Rattle.std.specs.Prelude.{◌≡◌, ◌≤◌};
 ghost use Rattle.qa_base.specs.values.Limits.{max_packet_size, max_max_ack_delay_ns};
-ghost use Rattle.qa_base.specs.values.Limits.{max_initial_rtt_ns};
+ghost use Rattle.qa_base.specs.values.Limits.{max_initial_rtt_ns, max_time_threshold_eighths};
 ghost use Rattle.qa_base.specs.values.Settings.{default_window as default_window_of};
 
 use crate::constants::{
-    DEFAULT_INITIAL_RTT, DEFAULT_MAX_ACK_DELAY, DEFAULT_PACKET_THRESHOLD, GRANULARITY_US,
-    INITIAL_WINDOW_BYTES, INITIAL_WINDOW_DATAGRAMS, minimum_window,
+    DEFAULT_INITIAL_RTT, DEFAULT_MAX_ACK_DELAY, DEFAULT_PACKET_THRESHOLD,
+    DEFAULT_TIME_THRESHOLD_EIGHTHS, GRANULARITY_US, INITIAL_WINDOW_BYTES, INITIAL_WINDOW_DATAGRAMS,
+    minimum_window,
 };
 use crate::key::{Key, RangeFault};
 use crate::limits::{
     MAX_INITIAL_RTT, MAX_INITIAL_WINDOW, MAX_MAX_ACK_DELAY, MAX_PACKET_SIZE, MAX_PACKET_THRESHOLD,
-    MAX_REPORT_SLACK_BYTES, MAX_REPORT_SLACK_US, MAX_TIMER_EARLY_US, MAX_TIMER_LATE,
-    MIN_DATAGRAM_SIZE, MIN_PACKET_THRESHOLD,
+    MAX_REPORT_SLACK_BYTES, MAX_REPORT_SLACK_US, MAX_TIME_THRESHOLD_EIGHTHS, MAX_TIMER_EARLY_US,
+    MAX_TIMER_LATE, MIN_DATAGRAM_SIZE, MIN_PACKET_THRESHOLD, MIN_TIME_THRESHOLD_EIGHTHS,
 };
 use crate::number::Ticks;
-use crate::space::{Controller, LossByNumber, Role, TimeUnit};
+use crate::space::{Controller, LossByNumber, Role, ThresholdCounts, TimeUnit};
 use std::marker::Model;
 
 /// The version of the trace format.
@@ -75,28 +76,41 @@ impl Version {
 pub struct Options {
     /// By how many microseconds the timer may be late, 0 to 10^15; None: by any number.
     pub timer_late: Option<u64>,
-    /// Persistent congestion sets `min_rtt` to the latest sample (RFC 9002, section 5.2).
-    pub refresh_min_rtt: bool,
     /// By how many microseconds a reported time may differ, 0 to 1000000000.
     pub report_slack_us: u64,
     /// By how many bytes a reported window, `ssthresh` or bytes in flight may differ, 0 to
     /// 4294967295.
     pub report_slack_bytes: u64,
+    /// `kPacketThreshold` of the sender (RFC 9002, section 6.1.1), 3 to 65535.
+    pub packet_threshold: u64,
+    /// By how many microseconds a timer may go off before it is due, 0 to 1000000000.
+    pub timer_early_us: u64,
+    /// `kTimeThreshold` of the sender in eighths of the RTT (RFC 9002, section 6.1.2), 9 to 32.
+    pub time_threshold_eighths: u64,
     /// By whose congestion window packets are judged.
     pub controller: Controller,
+    /// What becomes of a packet that lies `packet_threshold` or more behind. It may be spared only
+    /// where the window is a reported one.
+    pub loss_by_number: LossByNumber,
+    /// By what a packet lies `packet_threshold` or more behind (RFC 9002, section 6.1.1).
+    pub threshold_counts: ThresholdCounts,
+    /// Persistent congestion sets `min_rtt` to the latest sample (RFC 9002, section 5.2).
+    pub refresh_min_rtt: bool,
     /// A packet may go out wherever the bytes in flight are below the window before it, though it
     /// takes them past the window. The text of RFC 9002, section 7, forbids it.
     pub window_overshoot: bool,
     /// An acknowledgment gives a sample of the RTT only if the packet with its largest number is
     /// ack-eliciting; in RFC 9002, section 5.1, if some packet is that it newly acknowledges.
     pub sample_eliciting_only: bool,
-    /// `kPacketThreshold` of the sender (RFC 9002, section 6.1.1), 3 to 65535.
-    pub packet_threshold: u64,
-    /// By how many microseconds a timer may go off before it is due, 0 to 1000000000.
-    pub timer_early_us: u64,
-    /// What becomes of a packet that lies `packet_threshold` or more behind. It may be spared only
-    /// where the window is a reported one.
-    pub loss_by_number: LossByNumber,
+    /// Persistent congestion sets the estimate of the RTT back to what it is before any sample, but
+    /// for the latest one (RFC 9002, section 5.2). If `refresh_min_rtt` is set too, this decides.
+    pub reset_rtt: bool,
+    /// The latest RTT is a sample less the peer's delay, by which the smoothed RTT and its
+    /// variation move; but for the first. In RFC 9002, A.7, it is the sample itself.
+    pub latest_rtt_less_delay: bool,
+    /// Whether a packet was sent in a recovery period goes by the order of the lines, and not by
+    /// their times, which can be equal (RFC 9002, section 7.3.2; B.5 compares times).
+    pub recovery_by_order: bool,
 }
 
 impl Default for Options {
@@ -116,12 +130,20 @@ impl Default for Options {
             packet_threshold: DEFAULT_PACKET_THRESHOLD,
             timer_early_us: 0,
             loss_by_number: LossByNumber::Must,
+            threshold_counts: ThresholdCounts::Numbers,
+            reset_rtt: false,
+            latest_rtt_less_delay: false,
+            time_threshold_eighths: DEFAULT_TIME_THRESHOLD_EIGHTHS,
+            recovery_by_order: false,
         }
     }
 }
 
 impl Options {
-    ghost use Rattle.qa_base.specs.values.Settings.{fit_version_two, spares_unreported};
+    ghost use Rattle.std.specs.Prelude.{None};
+    ghost use Rattle.qa_base.specs.values.Settings.{AreOptionsInRange, first_outside};
+    ghost use Rattle.qa_base.specs.values.Settings.{fit_version_two, options_outside};
+    ghost use Rattle.qa_base.specs.values.Settings.{spares_unreported};
 
     /// Whether version 2 can say them.
     fn fit_version_two(&self) -> bool
@@ -133,6 +155,11 @@ impl Options {
             && self.packet_threshold == DEFAULT_PACKET_THRESHOLD
             && self.timer_early_us == 0
             && !self.loss_by_number.is_may()
+            && !self.threshold_counts.counts_packets()
+            && !self.reset_rtt
+            && !self.latest_rtt_less_delay
+            && self.time_threshold_eighths == DEFAULT_TIME_THRESHOLD_EIGHTHS
+            && !self.recovery_by_order
     }
 
     /// Whether packets may be spared while the window is not one that the sender reports.
@@ -140,6 +167,39 @@ impl Options {
         ensures { result ≡ spares_unreported self.now }
     {
         self.loss_by_number.is_may() && !self.controller.is_reported()
+    }
+
+    /// The key of the first option that is out of its range.
+    fn first_outside(&self) -> Option<Key>
+        ensures key { result ≡ first_outside (options_outside self.now) }
+        ensures range { result ≡ None → AreOptionsInRange self.now }
+    {
+        if MAX_TIMER_LATE < self.timer_late.unwrap_or(0) {
+            return Some(Key::TimerLateUs);
+        }
+        if MAX_REPORT_SLACK_US < self.report_slack_us {
+            return Some(Key::ReportSlackUs);
+        }
+        if MAX_REPORT_SLACK_BYTES < self.report_slack_bytes {
+            return Some(Key::ReportSlackBytes);
+        }
+        if self.packet_threshold < MIN_PACKET_THRESHOLD
+            || MAX_PACKET_THRESHOLD < self.packet_threshold
+        {
+            return Some(Key::PacketThreshold);
+        }
+        if MAX_TIMER_EARLY_US < self.timer_early_us {
+            return Some(Key::TimerEarlyUs);
+        }
+        if self.spares_unreported() {
+            return Some(Key::LossByNumber);
+        }
+        if self.time_threshold_eighths < MIN_TIME_THRESHOLD_EIGHTHS
+            || MAX_TIME_THRESHOLD_EIGHTHS < self.time_threshold_eighths
+        {
+            return Some(Key::TimeThresholdEighths);
+        }
+        None
     }
 }
 
@@ -153,11 +213,11 @@ impl Options {
 pub struct Header {
     role: Role,
     unit: TimeUnit,
+    version: Version,
     max_datagram_size: u64,
     max_ack_delay: u64,
     initial_rtt: u64,
     initial_window: u64,
-    version: Version,
     options: Options,
 }
 
@@ -309,8 +369,9 @@ impl Header {
     /// is of it already or version 2 cannot say them.
     ///
     /// Where an option is outside its range the fault names the first such, in the order of
-    /// `timer_late`, `report_slack_us`, `report_slack_bytes`, `packet_threshold`, `timer_early_us`
-    /// and `loss_by_number`, which is `May` only where the controller is `Reported`.
+    /// `timer_late`, `report_slack_us`, `report_slack_bytes`, `packet_threshold`, `timer_early_us`,
+    /// `loss_by_number`, which is `May` only where the controller is `Reported`, and
+    /// `time_threshold_eighths`.
     pub fn with(self, options: Options) -> Result<Header, RangeFault>
         ensures { result ≡ with_options self options }
     {
@@ -330,25 +391,8 @@ impl Header {
         requires said { IsSaidIn version self.unit options }
         ensures { result ≡ in_version version self options }
     {
-        if MAX_TIMER_LATE < options.timer_late.unwrap_or(0) {
-            return Err(RangeFault(Key::TimerLateUs));
-        }
-        if MAX_REPORT_SLACK_US < options.report_slack_us {
-            return Err(RangeFault(Key::ReportSlackUs));
-        }
-        if MAX_REPORT_SLACK_BYTES < options.report_slack_bytes {
-            return Err(RangeFault(Key::ReportSlackBytes));
-        }
-        if options.packet_threshold < MIN_PACKET_THRESHOLD
-            || MAX_PACKET_THRESHOLD < options.packet_threshold
-        {
-            return Err(RangeFault(Key::PacketThreshold));
-        }
-        if MAX_TIMER_EARLY_US < options.timer_early_us {
-            return Err(RangeFault(Key::TimerEarlyUs));
-        }
-        if options.spares_unreported() {
-            return Err(RangeFault(Key::LossByNumber));
+        if let Some(key) = options.first_outside() {
+            return Err(RangeFault(key));
         }
         Ok(Header {
             version,
@@ -384,6 +428,14 @@ impl Header {
         ensures bound { result ≤ 1000000000000 }
     {
         self.unit.per_microsecond() * self.options.timer_early_us.min(MAX_TIMER_EARLY_US)
+    }
+
+    /// `kTimeThreshold` of the sender in eighths of the RTT (RFC 9002, section 6.1.2), 9 to 32.
+    pub fn time_threshold_eighths(&self) -> u64
+        ensures value { result ≡ self.now.options.time_threshold_eighths }
+        ensures most { result ≤ max_time_threshold_eighths }
+    {
+        self.options.time_threshold_eighths
     }
 
     /// The sender's maximum datagram size in bytes, 1200 to 65527 (RFC 9002, section 7.2).

@@ -26,5 +26,7 @@ pub use line_kind::LineKind;
 pub use number::{PacketNumber, Span, Spans, Ticks};
 pub use per_space::PerSpace;
 pub use rule::{Field, Rule};
-pub use space::{Controller, LossByNumber, Permission, Role, Space, TimeUnit, TimerKind};
+pub use space::{
+    Controller, LossByNumber, Permission, Role, Space, ThresholdCounts, TimeUnit, TimerKind,
+};
 pub use totals::Totals;

@@ -19,6 +19,12 @@ pub const MIN_PACKET_THRESHOLD: u64 = 3;
 /// The greatest packet threshold, 2^16 - 1.
 pub const MAX_PACKET_THRESHOLD: u64 = 65535;
 
+/// The least time threshold in eighths of the RTT, which RFC 9002, section 6.1.2, recommends.
+pub const MIN_TIME_THRESHOLD_EIGHTHS: u64 = 9;
+
+/// The greatest time threshold in eighths of the RTT, four times the RTT.
+pub const MAX_TIME_THRESHOLD_EIGHTHS: u64 = 32;
+
 /// The greatest initial window, 2^32 - 1 bytes.
 pub const MAX_INITIAL_WINDOW: u64 = 4_294_967_295;
 

@@ -3,6 +3,7 @@ ghost use Rattle.std.specs.Prelude.{◌≡◌};
 ghost use Rattle.qa_base.specs.values.Names.{role_name, role_named, unit_name, unit_named};
 ghost use Rattle.qa_base.specs.values.Names.{controller_name, controller_named};
 ghost use Rattle.qa_base.specs.values.Names.{loss_by_number_name, loss_by_number_named, space_name};
+ghost use Rattle.qa_base.specs.values.Names.{threshold_counts_name, threshold_counts_named};
 ghost use Rattle.qa_base.specs.values.Names.{space_named, permission_name, permission_named};
 ghost use Rattle.qa_base.specs.values.Names.{kind_name, kind_named};
 
@@ -168,6 +169,48 @@ impl LossByNumber {
         ensures { result ≡ is_may_of self }
     {
         self == LossByNumber::May
+    }
+}
+
+/// By what a packet lies behind the largest acknowledged one, for the packet threshold (RFC 9002,
+/// section 6.1.1).
+#[derive(Clone, Copy, PartialEq, Eq)]
+pub enum ThresholdCounts {
+    /// By the difference of their packet numbers (A.10).
+    Numbers,
+    /// By how many packets were sent: numbers that the sender skipped do not count.
+    Packets,
+}
+
+impl ThresholdCounts {
+    ghost use Rattle.qa_base.specs.values.Settings.{counts_packets as counts_packets_of};
+
+    /// The count of this name: `numbers` or `packets`; None for any other string.
+    pub fn named(text: &str) -> Option<ThresholdCounts>
+        ensures { result ≡ threshold_counts_named text.now }
+    {
+        match text {
+            "numbers" => Some(ThresholdCounts::Numbers),
+            "packets" => Some(ThresholdCounts::Packets),
+            _ => None,
+        }
+    }
+
+    /// The count's name, which `named` reads.
+    pub fn name(self) -> &'static str
+        ensures { result.now ≡ threshold_counts_name self }
+    {
+        match self {
+            ThresholdCounts::Numbers => "numbers",
+            ThresholdCounts::Packets => "packets",
+        }
+    }
+
+    /// Whether packets are counted.
+    pub fn counts_packets(self) -> bool
+        ensures { result ≡ counts_packets_of self }
+    {
+        self == ThresholdCounts::Packets
     }
 }
 

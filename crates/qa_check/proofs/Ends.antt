@@ -11,7 +11,7 @@ use Rattle.qa_check.proofs.Judged.{Place, holds_of_good, lines_of_good, place_at
 use Rattle.qa_check.specs.declared.taking.Halt.{Halt}
 use Rattle.qa_check.specs.declared.taking.Halt.TheVariants.{OutOfMemory, Visitor}
 use Rattle.qa_check.specs.declared.taking.LastLine.{LastLine}
-use Rattle.qa_check.specs.Places.{good_lines, judged_at}
+use Rattle.qa_check.specs.Places.{good_lines}
 use Rattle.qa_check.specs.Standing.{AddsBad, Held, HoldsRun, Judges, StandsFor, by}
 use Rattle.qa_check.specs.Taking.{IsHanded, TakesBad}
 use Rattle.qa_check.specs.Walking.{Covered, Ends, HaltsAt, HaltsIn, HandsOut, HoldsGood, IsLine, VisitsGood, Walked, WalksInto, fault_by}
@@ -19,7 +19,7 @@ use Rattle.qa_format.proofs.verdicts.Cuts.{Cut, cut_ended, cut_without_lf, ended
 use Rattle.qa_format.proofs.verdicts.Fixed.{fixed_by_length, fixed_by_line}
 use Rattle.qa_format.specs.format.Lines.{cut, ended, ended_lines, has_lf, last_line, line_limit, lines, unended, IsShortLine}
 use Rattle.qa_format.specs.format.Reading.{reading}
-use Rattle.qa_format.specs.verdicts.Verdict.{Judging, events_in, header_in, said, verdict, verdict_of, AreGood, IsFixed}
+use Rattle.qa_format.specs.verdicts.Verdict.{Judging, events_in, header_in, said, verdict_of, AreGood, IsFixed}
 use Rattle.qa_read.specs.Stream.{BeginsTooLong}
 
 -- ---- what is handed out

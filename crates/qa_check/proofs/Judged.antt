@@ -1,5 +1,5 @@
 -- At which line lines are judged, of bytes and of bytes that are put behind others.
-use Rattle.std.proofs.Common.{◌≡◌, ◌∙◌, ◌+◌, ◌<◌, inl, inr, ℕ, List, [], ◌∷◌, ◌++◌, length, true, cond, Option, Some, None, append_assoc, is_some, refl, sym, ap, arith}
+use Rattle.std.proofs.Common.{◌≡◌, ◌∙◌, ◌<◌, inl, inr, ℕ, List, [], ◌∷◌, ◌++◌, length, true, cond, Option, Some, None, append_assoc, is_some, refl, sym, ap, arith}
 use Rattle.std.proofs.lemmas.List.{append-nil}
 use Rattle.std.specs.Option.{option_or}
 use Rattle.std.specs.Prelude.{IsSome}

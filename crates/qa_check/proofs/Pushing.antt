@@ -1,11 +1,9 @@
 -- What a checker makes of a line that it reads.
-use Rattle.std.proofs.Common.{◌≡◌, ◌∙◌, ◌<◌, ◌≤◌, ℕ, List, length, false, true, Option, Some, None, Result, Ok, Err, IfOk, IsOk, OnOk, refl, sym, ap, subst}
+use Rattle.std.proofs.Common.{◌≡◌, ◌∙◌, ◌<◌, ◌≤◌, ℕ, List, length, true, Result, Ok, Err, IfOk, IsOk, OnOk, refl, sym, ap}
 use Rattle.std.specs.Prelude.{⊤}
 use Rattle.std.specs.Result.{result_ok}
 use Rattle.qa_base.specs.values.Limits.{max_lines}
-use Rattle.qa_check.specs.Checking.{IsPushed, Pushes}
-use Rattle.qa_check.specs.declared.checker.Pushed.{Pushed}
-use Rattle.qa_check.specs.declared.checker.Pushed.TheVariants as pushed
+use Rattle.qa_check.specs.Checking.{Pushes}
 use Rattle.qa_check.specs.declared.checker.Stop.{Stop}
 use Rattle.qa_check.specs.declared.checker.Stop.TheVariants as stops
 use Rattle.qa_check.specs.Standing.{AddsBad, AddsGood, Held, Judges}
@@ -19,15 +17,6 @@ use Rattle.qa_read.specs.declared.fault.LineFault.{LineFault}
 use Rattle.qa_read.specs.declared.fault.LineFault.TheVariants as errors
 use Rattle.qa_read.specs.Gives.{Gives}
 
--- a line that was not read
-pub unread_pushes : {L : Type 0} (judges : Judges L) (old new : Held L) (l : List ℕ) (stop : Stop) (r : Pushed) → (stop ≡ stops.Decided → r ≡ pushed.Bad None) → (stop ≡ stops.OutOfMemory → r ≡ pushed.OutOfMemory)
-    → (stop ≡ stops.Decided → AddsBad judges old new l × (new.ledger ≡ old.ledger) × (old.verdict ≡ None → result_ok (said reading old.lines l) ≡ None)) → (stop ≡ stops.OutOfMemory → new.failed ≡ true)
-    → Pushes judges old new l r
-unread_pushes judges old new l stops.Decided r decided memory bad fails =
-    let adds = bad refl in
-    subst (λ (p : Pushed). Pushes judges old new l p) (sym (decided refl)) (adds.0, adds.1, λ none. sym (adds.2 none))
-unread_pushes judges old new l stops.OutOfMemory r decided memory bad fails = subst (λ (p : Pushed). Pushes judges old new l p) (sym (memory refl)) (fails refl)
-
 -- what is said of a line is what was read of it
 said_read : (n : ℕ) (l : List ℕ) (read : Result Line LineFault) → n < max_lines → length l ≤ line_limit → Gives (λ line. line) read (reading l) → (read ≡ Err errors.OutOfMemory → ⊥)
     → result_ok read ≡ result_ok (said reading n l)
@@ -36,16 +25,14 @@ said_read n l (Err (errors.Fault f)) few short gives some = sym (ap result_ok (r
 said_read n l (Err errors.OutOfMemory) few short gives some = absurd (some refl)
 
 -- a line that was read
-pub read_pushes : {L : Type 0} (judges : Judges L) (old new : Held L) (l : List ℕ) (taken : Result ⊤ Stop) (read : Result Line LineFault) (r : Pushed) → IsPushed taken read r → OnOk taken (IsOk read)
+pub read_pushes : {L : Type 0} (judges : Judges L) (old new : Held L) (l : List ℕ) (taken : Result ⊤ Stop) (read : Result Line LineFault) → OnOk taken (IsOk read)
     → (read ≡ Err errors.OutOfMemory → taken ≡ Err stops.OutOfMemory) → old.lines < max_lines → length l ≤ line_limit → Gives (λ line. line) read (reading l) → IfOk read (λ line. line_fits line ≡ true)
-    → (⊤ → OnOk taken ((m : List ℕ) → length m ≤ line_limit → Gives (λ line. line) read (reading m) → AddsGood judges old new m))
+    → OnOk taken (AddsGood judges old new l)
     → (taken ≡ Err stops.Decided → AddsBad judges old new l × (new.ledger ≡ old.ledger)) → (taken ≡ Err stops.OutOfMemory → new.failed ≡ true)
-    → Pushes judges old new l r
-read_pushes judges old new l (Ok t) (Ok x) r is ok memory few short gives fits good bad fails =
-    subst (λ (p : Pushed). Pushes judges old new l p) (sym is) (good tt l short gives, gives, fits)
-read_pushes judges old new l (Ok t) (Err f) r is ok memory few short gives fits good bad fails = cc
-read_pushes judges old new l (Err stops.Decided) read r is ok memory few short gives fits good bad fails =
+    → Pushes judges old new l read taken
+read_pushes judges old new l (Ok t) (Ok x) ok memory few short gives fits good bad fails = (good, gives, fits)
+read_pushes judges old new l (Ok t) (Err f) ok memory few short gives fits good bad fails = cc
+read_pushes judges old new l (Err stops.Decided) read ok memory few short gives fits good bad fails =
     let adds = bad refl in
-    subst (λ (p : Pushed). Pushes judges old new l p) (sym is) (adds.0, adds.1, λ none. said_read old.lines l read few short gives (λ out. let no = memory out in cc))
-read_pushes judges old new l (Err stops.OutOfMemory) read r is ok memory few short gives fits good bad fails =
-    subst (λ (p : Pushed). Pushes judges old new l p) (sym is) (fails refl)
+    (adds.0, adds.1, λ none. said_read old.lines l read few short gives (λ out. let no = memory out in cc))
+read_pushes judges old new l (Err stops.OutOfMemory) read ok memory few short gives fits good bad fails = fails refl

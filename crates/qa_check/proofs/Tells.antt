@@ -1,5 +1,5 @@
 -- What a walk wrote that tells of each line.
-use Rattle.std.proofs.Common.{◌≡◌, ◌∙◌, ℕ, List, [], ◌∷◌, ◌++◌, length, false, inl, inr, Option, Result, Ok, Err, IfErr, OnOk, OnErr, take, refl, sym}
+use Rattle.std.proofs.Common.{◌≡◌, ◌∙◌, ℕ, List, [], ◌∷◌, ◌++◌, false, inl, inr, Option, Result, Ok, Err, IfErr, OnOk, OnErr, take, refl}
 use Rattle.std.specs.Prelude.{⊤}
 use Rattle.std.proofs.KnownBytes.{Appends-nil, Appends-trans}
 use Rattle.std.specs.Io.KnownBytes.{Appends}

@@ -1,7 +1,7 @@
 -- What lines and pieces do to what was written of them.
-use Rattle.std.proofs.Common.{◌≡◌, ◌∙◌, ◌+◌, ℕ, List, [], ◌∷◌, ◌++◌, length, take, drop, Bool, false, ◌⊎◌, inl, inr, Option, Some, None, Result, Ok, Err, OnErr, length-append, append_assoc, take-append-drop, refl, sym, ap}
+use Rattle.std.proofs.Common.{◌≡◌, ◌∙◌, ℕ, List, [], ◌++◌, take, drop, ◌⊎◌, inl, inr, Option, Some, None, Result, Ok, Err, OnErr, append_assoc, take-append-drop, refl, sym, ap}
 use Rattle.std.proofs.lemmas.List.{append-nil}
-use Rattle.std.proofs.KnownBytes.{Appends-nil, Appends-trans}
+use Rattle.std.proofs.KnownBytes.{Appends-trans}
 use Rattle.std.specs.Io.KnownBytes.{Appends, Consumes, IsAtEnd}
 use Rattle.qa_format.specs.declared.verdict.Verdict.{Verdict}
 use Rattle.qa_format.specs.format.Reading.{reading}

@@ -1,5 +1,5 @@
 -- What an auditor holds, and which bytes were fed to it.
-use Rattle.std.specs.Prelude.{◌≡◌, ◌==◌, ℕ, Bool, false, List, length, Option, None, Result, Ok}
+use Rattle.std.specs.Prelude.{◌≡◌, ◌==◌, ℕ, Bool, false, List, length, Result, Ok}
 use Rattle.std.specs.Prelude.{Err}
 use Rattle.qa_format.specs.declared.verdict.Verdict.{Verdict}
 use Rattle.qa_format.specs.format.Lines.{IsShortLine}

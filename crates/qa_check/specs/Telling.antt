@@ -1,5 +1,5 @@
 -- What a visitor wrote that tells of each line.
-use Rattle.std.specs.Prelude.{◌≡◌, ⊤, ℕ, List, Option, Result, Err}
+use Rattle.std.specs.Prelude.{◌≡◌, ⊤, ℕ, List, Option, Err}
 use Rattle.std.specs.Io.KnownBytes.{Appends}
 use Rattle.qa_format.specs.verdicts.Explain.{Telling, told_of}
 use Rattle.qa_format.specs.verdicts.Verdict.{Judging}

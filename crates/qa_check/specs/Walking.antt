@@ -1,15 +1,13 @@
 -- What a walk over the lines of a trace reads and leaves.
-use Rattle.std.specs.Prelude.{◌≡◌, ◌⊎◌, ◌<◌, ◌++◌, [], ◌∷◌, ℕ, Bool, true, is_some, length, List}
-use Rattle.std.specs.Prelude.{Option, Some, None, IfSome, false, Result, Ok, Err, if◌then◌else◌}
+use Rattle.std.specs.Prelude.{◌≡◌, ◌⊎◌, ◌<◌, ◌++◌, [], ◌∷◌, ℕ, Bool, true, length, List}
+use Rattle.std.specs.Prelude.{Option, Some, None, IfSome, false, Result, Ok, Err}
 use Rattle.std.specs.Result.{result_ok}
 use Rattle.std.specs.Io.KnownBytes.{Consumes, IsAtEnd}
 use Rattle.qa_base.specs.machine.Packets.{history_of}
-use Rattle.qa_format.specs.declared.fault.Fault.{Fault}
-use Rattle.qa_format.specs.declared.line.Line.{Line}
 use Rattle.qa_format.specs.format.Lines.{ended_lines, line_limit, lines}
 use Rattle.qa_format.specs.format.Reading.{reading}
 use Rattle.qa_format.specs.verdicts.Verdict.{AreGood, Judging, IsFixed, events_in, header_in}
-use Rattle.qa_format.specs.verdicts.Verdict.{said, stop_after, verdict}
+use Rattle.qa_format.specs.verdicts.Verdict.{said, verdict}
 use Rattle.qa_check.specs.declared.taking.Halt.{Halt}
 use Rattle.qa_check.specs.declared.taking.Halt.TheVariants as halts
 use Rattle.qa_check.specs.declared.taking.LastLine.{LastLine}

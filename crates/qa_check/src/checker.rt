@@ -15,7 +15,7 @@ ghost use Rattle.qa_format.specs.verdicts.Verdict as verdicts;
 ghost use Rattle.qa_read.specs.Gives.{Gives};
 ghost use Rattle.qa_check.specs.Standing.{StandsFor, by, HoldsRun, AddsGood, AddsBad, IsLineOf};
 ghost use Rattle.qa_check.specs.Standing.{TakesIn, StopsAt};
-ghost use Rattle.qa_check.specs.Checking.{IsPushed, Pushes};
+ghost use Rattle.qa_check.specs.Checking.{Pushes};
 ghost use Rattle.std.specs.Result.{result_ok};
 ghost use Rattle.qa_format.specs.verdicts.Verdict.{said};
 
@@ -37,18 +37,6 @@ pub enum Stop {
     Decided,
     /// Out of memory: the checker has failed.
     #[error("out of memory")]
-    OutOfMemory,
-}
-
-/// What a checker made of a line, and what the line says.
-#[derive(Drop)]
-pub enum Pushed {
-    /// The line is good, and says this.
-    Good(Line),
-    /// The line is not good, or an earlier one was not, and the verdict is fixed. It says this, or
-    /// nothing was read of it.
-    Bad(Option<Line>),
-    /// Out of memory: the checker has failed.
     OutOfMemory,
 }
 
@@ -122,17 +110,18 @@ impl<L: Judge + Drop> Checker<L> {
         self.take_read(&read)
     }
 
-    /// Takes the next line as `push_line` does, and returns what was read of it, good or not.
-    pub fn push_line_said(&mut self, bytes: &[u8]) -> Pushed
-        ensures failed { self.old.failed ≡ true → result ≡ Pushed.OutOfMemory }
-        ensures pushed { Pushes L.judges self.old self.new bytes.now result }
+    /// Takes in what was read of the next line, of which `expect_bytes` said that it can be taken,
+    /// as `push_line` does. What was read is lent: an event is large, and is mostly shown next.
+    #[inline(always)]
+    pub(crate) fn push_read(&mut self, read: &Result<Line, LineFault>) -> Result<(), Stop>
+        requires whole { self.old.failed ≡ false }
+        requires undecided { self.old.verdict ≡ None }
+        requires few { self.old.lines < max_lines }
+        requires fitting { IfOk read.now (λ line. line_fits line ≡ true) }
+        ensures { (l : List ℕ) → length l ≤ line_limit → Gives (λ line. line) read.now (reading l)
+            → Pushes L.judges self.old self.new l read.now result }
     {
-        if let Err(stop) = self.expect_bytes(bytes) {
-            return unread(stop);
-        }
-        let read = read_line(self.alloc, bytes);
-        let taken = self.take_read(&read);
-        answer_of(taken, read)
+        self.take_read(read)
     }
 
     /// Takes the next line by what it says, as `push_line` takes each line that is read as this.
@@ -263,7 +252,7 @@ impl<L: Judge + Drop> Checker<L> {
     /// Stops where no line is taken that has these bytes: as `expect_line`, and where they are too
     /// many.
     #[inline(always)]
-    fn expect_bytes(&mut self, bytes: &[u8]) -> Result<(), Stop>
+    pub(crate) fn expect_bytes(&mut self, bytes: &[u8]) -> Result<(), Stop>
         ensures failed { self.old.failed ≡ true → result ≡ Err Stop.OutOfMemory }
         ensures fails { (result ≡ Err Stop.OutOfMemory)
             → (self.old.failed ≡ true) × (self.new.failed ≡ true) }
@@ -408,31 +397,5 @@ impl<L: Judge + Drop> Checker<L> {
         let totals = self.totals();
         self.verdict = Some(Verdict::Unreadable(self.lines + 1, fault, totals));
         Stop::Decided
-    }
-}
-
-/// What a checker answers of a line that it did not read.
-fn unread(stop: Stop) -> Pushed
-    ensures decided { stop ≡ Stop.Decided → result ≡ Pushed.Bad None }
-    ensures out_of_memory { stop ≡ Stop.OutOfMemory → result ≡ Pushed.OutOfMemory }
-{
-    match stop {
-        Stop::Decided => Pushed::Bad(None),
-        Stop::OutOfMemory => Pushed::OutOfMemory,
-    }
-}
-
-/// What a checker answers of a line that it read.
-fn answer_of(taken: Result<(), Stop>, read: Result<Line, LineFault>) -> Pushed
-    requires read { OnOk taken (IsOk read) }
-    ensures { IsPushed taken read result }
-{
-    match taken {
-        Ok(()) => match read {
-            Ok(line) => Pushed::Good(line),
-            Err(_) => unreachable!(),
-        },
-        Err(Stop::Decided) => Pushed::Bad(read.ok()),
-        Err(Stop::OutOfMemory) => Pushed::OutOfMemory,
     }
 }

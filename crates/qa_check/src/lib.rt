@@ -16,7 +16,7 @@ mod walking;
 
 pub use auditing::{AuditFault, Outcome, audit, memory_or_read, write_whole};
 pub use auditor::{Auditor, Progress};
-pub use checker::{Checker, Pushed, Stop};
+pub use checker::{Checker, Stop};
 pub use explaining::{explain, fault_of_writer};
 pub use judges::Judge;
 pub use names::{escaped, is_hidden, shown_name};

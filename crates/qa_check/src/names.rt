@@ -5,16 +5,58 @@ ghost use Rattle.qa_check.specs.names.Names as names;
 
 use std::alloc::{AllocError, Global};
 
-/// Whether a character is shown by its bytes: the control characters, and those that end lines or
-/// turn the order of a text around.
+/// Whether a character is shown by its bytes: the control characters, those that end lines, and
+/// those that Unicode gives the property Default_Ignorable_Code_Point, for which nothing is drawn.
+/// Among them are those that turn the order of a text around, and tags.
 pub fn is_hidden(character: char) -> bool
     ensures { result ≡ names.is_hidden character }
 {
     character.is_control()
-        || matches!(
-            character,
-            '\u{61C}' | '\u{200E}'..='\u{200F}' | '\u{2028}'..='\u{202E}' | '\u{2066}'..='\u{2069}'
-        )
+        || matches!(character, '\u{2028}'..='\u{2029}')
+        || is_filler(character)
+        || is_selector(character)
+        || is_format(character)
+}
+
+/// Whether it is a filler or a joiner for which nothing is drawn.
+#[tactic(auto, unfolding(crate::specs::names::Names::is_filler))]
+fn is_filler(character: char) -> bool
+    ensures { result ≡ names.is_filler character }
+{
+    matches!(
+        character,
+        '\u{34F}' | '\u{115F}'..='\u{1160}' | '\u{17B4}'..='\u{17B5}' | '\u{3164}' | '\u{FFA0}'
+    )
+}
+
+/// Whether it selects a variant of another, or is one of the tags and what is kept beside them.
+#[tactic(auto, unfolding(crate::specs::names::Names::is_selector))]
+fn is_selector(character: char) -> bool
+    ensures { result ≡ names.is_selector character }
+{
+    matches!(
+        character,
+        '\u{180B}'..='\u{180F}' | '\u{FE00}'..='\u{FE0F}' | '\u{E0000}'..='\u{E0FFF}'
+    )
+}
+
+/// Whether it formats a text and is not drawn itself.
+#[tactic(auto, unfolding(crate::specs::names::Names::is_format))]
+fn is_format(character: char) -> bool
+    ensures { result ≡ names.is_format character }
+{
+    matches!(
+        character,
+        '\u{AD}'
+            | '\u{61C}'
+            | '\u{200B}'..='\u{200F}'
+            | '\u{202A}'..='\u{202E}'
+            | '\u{2060}'..='\u{206F}'
+            | '\u{FEFF}'
+            | '\u{FFF0}'..='\u{FFF8}'
+            | '\u{1BCA0}'..='\u{1BCA3}'
+            | '\u{1D173}'..='\u{1D17A}'
+    )
 }
 
 /// A byte as `\x` and two digits of base 16.

@@ -10,14 +10,15 @@ ghost use Rattle.qa_check.specs.Auditor.{TakesMore};
 ghost use Rattle.qa_check.specs.Following.{IsReady};
 ghost use Rattle.qa_check.specs.Standing.{StandsFor, by};
 ghost use Rattle.qa_check.specs.Walking.{Covered, Ends, HaltsAt, HaltsIn, VisitsGood, Walked};
+ghost use Rattle.qa_check.specs.Checking.{IsRead};
 ghost use Rattle.qa_check.specs.Taking.{IsKept, IsUnseen, TakesBad};
 ghost use Rattle.qa_check.specs.declared.taking.LastLine.{LastLine as ALast};
 
-use crate::checker::{Checker, Pushed, Stop};
+use crate::checker::{Checker, Stop};
 use crate::judges::Judge;
 use crate::visitor::Visitor;
 use qa_format::Line;
-use qa_read::{SplitFault, Splitter};
+use qa_read::{LineFault, SplitFault, Splitter, read_line};
 use std::alloc::{AllocError, Global};
 
 /// The line that ended a walk, which is not good.
@@ -162,23 +163,27 @@ fn take_line<J: Judge + Drop, V: Visitor<J>>(
     if !keeps && !visitor.looks() {
         return unseen::<V::Fault>(checker.push_line(line));
     }
-    match checker.push_line_said(line) {
-        Pushed::Good(said) => show_line::<J, V>(checker, visitor, line, &said),
-        Pushed::Bad(said) => keep_last::<V::Fault>(alloc, keeps, line, said, last),
-        Pushed::OutOfMemory => Err(Halt::OutOfMemory),
+    if let Err(stop) = checker.expect_bytes(line) {
+        return keep_unread::<V::Fault>(alloc, keeps, line, stop, last);
+    }
+    let read = read_line(alloc, line);
+    match checker.push_read(&read) {
+        Ok(()) => show_line::<J, V>(checker, visitor, line, &read),
+        Err(Stop::Decided) => keep_last::<V::Fault>(alloc, keeps, line, read.ok(), last),
+        Err(Stop::OutOfMemory) => Err(Halt::OutOfMemory),
     }
 }
 
-/// Shows the visitor the good line that the checker took last and that says this.
+/// Shows the visitor the good line that the checker took last and that was read so.
 fn show_line<J: Judge + Drop, V: Visitor<J>>(
     checker: &Checker<J>,
     visitor: &mut V,
     line: &[u8],
-    said: &Line,
+    read: &Result<Line, LineFault>,
 ) -> Result<Judged, Halt<V::Fault>>
     requires whole { checker.now.failed ≡ false }
-    requires says { reading line.now ≡ Ok said.now }
-    requires fitting { line_fits said.now ≡ true }
+    requires says { IsRead (λ said. (reading line.now ≡ Ok said) × (line_fits said ≡ true))
+        read.now }
     ensures shown { IfOk result (λ judged. (judged ≡ Judged.Good) × ((begun : V)
         (ls : List (List ℕ)) → V.covers begun visitor.old ls
         → StandsFor J.judges checker.now (ls ++ line.now ∷ [])
@@ -189,9 +194,12 @@ fn show_line<J: Judge + Drop, V: Visitor<J>>(
         → AreGood (by J.judges) (ls ++ line.now ∷ [])
         → HaltsAt (V.covers begun) (V.fails begun) visitor.new halt (ls ++ line.now ∷ [])) }
 {
-    match visitor.visit(checker.line_count(), line, said, checker.ledger()) {
-        Ok(()) => Ok(Judged::Good),
-        Err(fault) => Err(Halt::Visitor(fault)),
+    match read {
+        Ok(said) => match visitor.visit(checker.line_count(), line, said, checker.ledger()) {
+            Ok(()) => Ok(Judged::Good),
+            Err(fault) => Err(Halt::Visitor(fault)),
+        },
+        Err(_) => unreachable!(),
     }
 }
 
@@ -203,6 +211,27 @@ fn unseen<F>(pushed: Result<(), Stop>) -> Result<Judged, Halt<F>>
         Ok(()) => Ok(Judged::Good),
         Err(Stop::Decided) => Ok(Judged::Bad),
         Err(Stop::OutOfMemory) => Err(Halt::OutOfMemory),
+    }
+}
+
+/// Keeps the line, of which nothing is read, where it is not good and lines are kept.
+#[cold]
+#[inline(never)]
+fn keep_unread<F>(
+    alloc: Global,
+    keeps: bool,
+    line: &[u8],
+    stop: Stop,
+    last: &mut Option<LastLine>,
+) -> Result<Judged, Halt<F>>
+    requires none { last.old ≡ None }
+    ensures bad { IfOk result (λ judged. (judged ≡ Judged.Bad) × (stop ≡ Stop.Decided)
+        × IsKept keeps line.now None last.new) }
+    ensures memory { IfErr result (λ halt. halt ≡ Halt.OutOfMemory) }
+{
+    match stop {
+        Stop::Decided => keep_last::<F>(alloc, keeps, line, None, last),
+        Stop::OutOfMemory => Err(Halt::OutOfMemory),
     }
 }
 

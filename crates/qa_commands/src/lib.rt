@@ -12,4 +12,4 @@ pub use checking::check;
 pub use commanding::{command, refuse};
 pub use ending::{Failure, Origin, status};
 pub use explaining::explain;
-pub use naming::write_line;
+pub use naming::{write_line, write_lines};

@@ -1,6 +1,7 @@
-//! Lines that end in the name of a file.
+//! Lines that end in the name of a file, and texts of several lines.
 ghost use Rattle.std.specs.Prelude.{◌≡◌, true, is_err, flat_map};
-ghost use Rattle.qa_commands.specs.Names.{line_with};
+ghost use Rattle.qa_commands.specs.Names.{is_hidden_in_lines, line_with};
+ghost use Rattle.qa_commands.specs.Names.{shown_in_lines, shown_lines};
 ghost use Rattle.qa_check.specs.names.Names as names;
 ghost use Rattle.qa_check.specs.names.Names.{shown_character, shown_name};
 ghost use Rattle.qa_commands.specs.Writes.{Writes};
@@ -47,6 +48,48 @@ fn write_character<S: Sink>(character: char, sink: &mut S) -> Result<(), AuditFa
     let mut buffer = [0u8; 4];
     let bytes = character.encode_utf8(&mut buffer).as_bytes();
     if is_hidden(character) {
+        write_escaped(bytes, sink)
+    } else {
+        write_bytes(bytes, sink)
+    }
+}
+
+/// Writes a text of several lines, each hidden character but LF by its bytes. Takes no memory.
+pub fn write_lines<S: Sink>(text: &str, sink: &mut S) -> Result<(), AuditFault>
+    ensures { Writes (is_err result) (S.held sink.old) (S.held sink.new)
+        (S.write_failures sink.old) (S.write_failures sink.new) (shown_lines text.now) }
+{
+    if are_shown_as_they_are(text) {
+        return write_bytes(text.as_bytes(), sink);
+    }
+    for character in text.chars() {
+        write_in_lines(character, sink)?;
+    }
+    Ok(())
+}
+
+/// Whether no character of a text of several lines is hidden. Most are written in one piece.
+fn are_shown_as_they_are(text: &str) -> bool
+    ensures { result ≡ true → shown_lines text.now ≡ text.now }
+{
+    !text.chars().any(|character| is_hidden_in_lines(character))
+}
+
+/// Whether a character is hidden, where LF ends a line.
+fn is_hidden_in_lines(character: char) -> bool
+    ensures { result ≡ is_hidden_in_lines character }
+{
+    is_hidden(character) && character != '\n'
+}
+
+/// Writes a character of a text of several lines.
+fn write_in_lines<S: Sink>(character: char, sink: &mut S) -> Result<(), AuditFault>
+    ensures { Writes (is_err result) (S.held sink.old) (S.held sink.new)
+        (S.write_failures sink.old) (S.write_failures sink.new) (shown_in_lines character) }
+{
+    let mut buffer = [0u8; 4];
+    let bytes = character.encode_utf8(&mut buffer).as_bytes();
+    if is_hidden_in_lines(character) {
         write_escaped(bytes, sink)
     } else {
         write_bytes(bytes, sink)

@@ -1,1 +1,2 @@
 pub mod Session
+pub mod Recording

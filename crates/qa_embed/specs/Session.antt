@@ -12,10 +12,12 @@ use Rattle.qa_sender.specs.Running.{State, IsAfter}
 use Rattle.qa_embed.specs.declared.Phase.{Phase}
 use Rattle.qa_embed.specs.declared.Phase.TheVariants.{Open, Fixed, Finished, OutOfMemory}
 
--- an audit, and whether it was said that nothing follows
+-- an audit, whether it was said that nothing follows, and the text that is kept of what was handed
+-- in, where it is kept
 pub record Run : Type 0 where
   pub audit : Audit State
   pub finished : Bool
+  pub recorded : Option (List ℕ)
 
 -- nothing can change it any more
 abbrev pub IsOver : Result Progress AuditFault → Type 0
@@ -58,3 +60,17 @@ IsFedBy true audit bytes = Concludes audit.progress bytes
 -- nothing is said
 abbrev pub IsFed : Run → List ℕ → Type 0
 IsFed run bytes = IsFedBy run.finished run.audit bytes
+
+-- the text that can be had of it: none once it is out of memory
+abbrev pub recorded_by : Result Progress AuditFault → Option (List ℕ) → Option (List ℕ)
+recorded_by (Ok progress) text = text
+recorded_by (Err f) text = None
+
+abbrev pub recorded_of : Run → Option (List ℕ)
+recorded_of run = recorded_by run.audit.progress run.recorded
+
+-- what follows can change the verdict
+abbrev pub is_open : Result Progress AuditFault → Bool
+is_open (Ok progress.Open) = true
+is_open (Ok (progress.Fixed v)) = false
+is_open (Err f) = false

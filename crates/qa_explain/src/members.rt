@@ -14,7 +14,7 @@ mod subjects;
 
 pub use deadlines::push_due;
 pub use facts::push_facts;
-pub use losses::push_owed;
+pub use losses::{push_owed, push_owed_runs};
 pub use object::Object;
 pub use sending::push_bytes;
 pub use subjects::push_subject;

@@ -13,8 +13,10 @@ pub mod loss
 pub mod metrics
 pub mod order
 pub mod persistent
+pub mod recovery_by_order
 pub mod recovery_mark
 pub mod reported_window
+pub mod reset
 pub mod rtt
 pub mod rules
 pub mod second_version

@@ -4,3 +4,5 @@ pub mod Useful
 pub mod Fates
 pub mod Alike
 pub mod Conduct
+pub mod Congested
+pub mod Latest

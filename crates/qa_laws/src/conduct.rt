@@ -16,10 +16,10 @@ ghost use Rattle.qa_format.specs.format.Reading.{reading};
 ghost use Rattle.qa_base.specs.machine.Breaches.{is_before, is_collapse_missing};
 ghost use Rattle.qa_base.specs.machine.Loss.{bytes_in_flight, declared, detection, free, is_owed};
 ghost use Rattle.qa_base.specs.machine.Loss.{is_persistent, owed};
-ghost use Rattle.qa_base.specs.machine.Moments.{before_last, detection_of, last_time};
+ghost use Rattle.qa_base.specs.machine.Moments.{before_last, detection_of};
 ghost use Rattle.qa_base.specs.machine.Packets.{Packet, history_of, largest_acknowledged, packets};
-ghost use Rattle.qa_base.specs.machine.Reno.{is_entry, reno};
-ghost use Rattle.qa_base.specs.machine.Detection.{is_old};
+ghost use Rattle.qa_base.specs.machine.Reno.{event_mark, is_entry, reno};
+ghost use Rattle.qa_base.specs.machine.Detection.{distance_below, is_old};
 ghost use Rattle.qa_base.specs.machine.Estimates.{rtt, sampled};
 ghost use Rattle.qa_base.specs.machine.Rtt.{loss_delay};
 ghost use Rattle.qa_base.specs.machine.Rules.{IsRun};
@@ -64,7 +64,8 @@ pub fn open_packets_are_near()
         → IsRun c h → AllByRecursion IsProperEvent h → (p : Packet)
         → Contains (packets h) p → is_flying c h p ≡ true
         → (largest : ℕ) → largest_acknowledged h p.space ≡ Some largest → p.number < largest
-        → largest < p.number + c.options.packet_threshold }
+        → distance_below c.options.threshold_counts h p.space p.number largest
+        < c.options.packet_threshold }
     ensures by_age { (c : Settings) (h : List Event) (p : Packet) (now largest : ℕ)
         → is_flying c h p ≡ true
         → detection c h ≡ Some (p.space, now)
@@ -117,7 +118,7 @@ pub fn early_timers_make_no_collapse()
         → is_before time (deadline c h) ≡ true → (p : Packet)
         → Contains (owed c (events.Timer time kinds.Loss space ∷ h)) p → (due : Due)
         → deadline c h ≡ Some due
-        → p.time + loss_delay (granularity c) (rtt c h) ≡ due.time }
+        → p.time + loss_delay c (rtt c h) ≡ due.time }
 {}
 
 /// In a run the bytes in flight are within the window behind an in-flight packet that is sent by
@@ -149,19 +150,21 @@ pub fn sends_have_permission()
 
 /// Of two entries into recovery in a run, by different detections and with no collapse of the
 /// window between, the second has a loss that was sent after the detection of the first (RFC 9002,
-/// section 7.3.2). Where losses by number must be declared, each entry is a detection.
+/// section 7.3.2): by time, or by the order of the lines where the header says that it decides.
+/// Where losses by number must be declared, each entry is a detection.
 pub fn entries_need_later_losses()
     ensures any { (c : Settings) (e f : Event) (between h : List Event)
         → IsRun c (e ∷ between ++ f ∷ h)
         → is_entry c (f ∷ h) ≡ true
         → is_entry c (e ∷ between ++ f ∷ h) ≡ true
         → detection_of (e ∷ between ++ f ∷ h) ≢ f ∷ h → NoCollapse c between (f ∷ h)
-        → IsSentAfter (last_time (detection_of (f ∷ h))) (declared c (e ∷ between ++ f ∷ h)) }
+        → IsSentAfter c (event_mark c (detection_of (f ∷ h)))
+        (declared c (e ∷ between ++ f ∷ h)) }
     ensures must { (c : Settings) (e f : Event) (between h : List Event)
         → is_may c.options.loss_by_number ≡ false
         → IsRun c (e ∷ between ++ f ∷ h) → is_entry c (f ∷ h) ≡ true
         → is_entry c (e ∷ between ++ f ∷ h) ≡ true → NoCollapse c between (f ∷ h)
-        → IsSentAfter (time_of f) (owed c (e ∷ between ++ f ∷ h)) }
+        → IsSentAfter c (event_mark c (f ∷ h)) (owed c (e ∷ between ++ f ∷ h)) }
 {}
 
 /// An event enters recovery exactly where packets are lost by it, the last of which was sent after
@@ -170,11 +173,13 @@ pub fn entries_need_later_losses()
 /// event itself.
 pub fn entries_are_losses()
     ensures any { (c : Settings) (h : List Event)
-        → is_entry c h ≡ is_entered_by (reno c (before_last (detection_of h))).recovery_start_time
+        → is_entry c h
+        ≡ is_entered_by c (reno c (before_last (detection_of h))).recovery_start_time
         (declared c h) }
     ensures must { (c : Settings) (e : Event) (h : List Event)
         → is_may c.options.loss_by_number ≡ false
-        → is_entry c (e ∷ h) ≡ is_entered_by (reno c h).recovery_start_time (owed c (e ∷ h)) }
+        → is_entry c (e ∷ h)
+        ≡ is_entered_by c (reno c h).recovery_start_time (owed c (e ∷ h)) }
 {}
 
 /// Packets are lost by an event that lowers the window (RFC 9002, sections 7.3.2 and 7.6.2). Where

@@ -1,7 +1,7 @@
 //! Facts over the definitions alone. Each is the contract of a function that does nothing.
 ghost use Rattle.std.specs.Prelude.{◌≡◌, ◌≢◌, ◌≤◌, ◌++◌, ◌∷◌, ◌+◌, ◌-◌, ◌*◌, ◌&&◌, ◌↔◌, [], List};
-ghost use Rattle.std.specs.Prelude.{length, ℕ, Bool, true, false, not, Some, None, Ok, max};
-ghost use Rattle.std.specs.Prelude.{if◌then◌else◌};
+ghost use Rattle.std.specs.Prelude.{length, ℕ, Bool, true, false, not, Some, None, Ok, max, nat_lt};
+ghost use Rattle.std.specs.Prelude.{Contains, if◌then◌else◌};
 ghost use Rattle.qa_base.specs.declared.event.Event.{Event};
 ghost use Rattle.qa_base.specs.declared.event.Event.TheVariants as events;
 ghost use Rattle.qa_base.specs.declared.event.SentPacket.{SentPacket};
@@ -16,30 +16,32 @@ ghost use Rattle.qa_base.specs.declared.space.Permission.{Permission};
 ghost use Rattle.qa_base.specs.declared.space.Space.{Space};
 ghost use Rattle.qa_base.specs.declared.totals.Totals.{Totals};
 ghost use Rattle.qa_format.specs.declared.verdict.Verdict.TheVariants as verdicts;
-ghost use Rattle.qa_base.specs.values.Events.{fits, is_quiet};
+ghost use Rattle.qa_base.specs.values.Events.{fits, is_quiet, time_of};
 ghost use Rattle.qa_format.specs.format.AnyOrder.{AreOf, AreOfHeader, text_of};
 ghost use Rattle.qa_format.specs.format.Lines.{has_lf, lines};
 ghost use Rattle.qa_base.specs.machine.Breaches.{is_before, is_collapse_missing, is_timer_early};
 ghost use Rattle.qa_base.specs.machine.Breaches.{is_timer_late};
-ghost use Rattle.qa_base.specs.machine.Detection.{is_old};
-ghost use Rattle.qa_base.specs.machine.Estimates.{rtt, sampled};
+ghost use Rattle.qa_base.specs.machine.Detection.{is_end, is_old};
+ghost use Rattle.qa_base.specs.machine.Estimates.{rtt, sampled, with_sample_of};
 ghost use Rattle.qa_base.specs.machine.FirstVersion.{exact_tests, rtt_by_samples};
 ghost use Rattle.qa_base.specs.machine.Loss.{bytes_in_flight, declared, detection, free, nameable};
-ghost use Rattle.qa_base.specs.machine.Loss.{owed};
+ghost use Rattle.qa_base.specs.machine.Loss.{is_persistent, owed};
+ghost use Rattle.qa_base.specs.machine.Moments.{last_time};
 ghost use Rattle.qa_base.specs.machine.Numbers.{AreRanges, NamesBetween, NamesOnly, has_all};
 ghost use Rattle.qa_base.specs.machine.Numbers.{names_between};
 ghost use Rattle.qa_base.specs.machine.Order.{NumbersFall};
 ghost use Rattle.qa_base.specs.machine.Packets.{Packet, packets, is_discarded, newly_acknowledged};
 ghost use Rattle.qa_format.specs.format.Proper.{IsProperEvent, IsProperLine};
 ghost use Rattle.qa_format.specs.format.Reading.{reading};
-ghost use Rattle.qa_base.specs.machine.Reno.{moves};
-ghost use Rattle.qa_base.specs.machine.Rtt.{Estimate, loss_delay};
+ghost use Rattle.qa_base.specs.machine.Reno.{event_mark, is_entry, is_outside_recovery, moves};
+ghost use Rattle.qa_base.specs.machine.Reno.{sent_mark};
+ghost use Rattle.qa_base.specs.machine.Rtt.{Estimate, first_sample, loss_delay, start};
+ghost use Rattle.qa_base.specs.machine.Rtt.{with_sample};
 ghost use Rattle.qa_base.specs.machine.Metrics.{metric_tests};
 ghost use Rattle.qa_base.specs.machine.Rules.{first_broken, IsComplete, IsRun};
 ghost use Rattle.qa_base.specs.machine.Slack.{with_slacks};
 ghost use Rattle.qa_base.specs.machine.State.{totals};
 ghost use Rattle.qa_base.specs.values.Constants.{minimum_window, time_threshold_divisor};
-ghost use Rattle.qa_base.specs.values.Constants.{time_threshold_parts};
 ghost use Rattle.qa_base.specs.values.Limits.{max_packet_size};
 ghost use Rattle.qa_base.specs.values.Settings.{Settings, AreInRange, choosing_options};
 ghost use Rattle.qa_base.specs.values.Settings.{granularity, is_may, is_reported, no_options};
@@ -47,8 +49,11 @@ ghost use Rattle.qa_base.specs.machine.Timer.{deadline, pto_count};
 ghost use Rattle.qa_format.specs.verdicts.Verdict.{strict, Reading, IsFixed, IsTraceOfRun, verdict};
 ghost use Rattle.qa_format.specs.format.Written.{Pairs, written};
 ghost use Rattle.qa_base.specs.machine.Widths.{Fits, IsTimely, acknowledged_count};
-ghost use Rattle.qa_base.specs.machine.Window.{window};
+ghost use Rattle.qa_base.specs.machine.Window.{ssthresh, window};
 ghost use Rattle.qa_laws.specs.machine.Alike.{IsLooser, NothingFree, of_version, where_they_must};
+ghost use Rattle.qa_laws.specs.machine.Alike.{NoneAtStarts, with_recovery_by_order};
+ghost use Rattle.qa_laws.specs.machine.Alike.{with_time_threshold};
+ghost use Rattle.qa_laws.specs.machine.Congested.{NeverPersistent, samples_alone};
 ghost use Rattle.qa_base.specs.history.Declared.{named_free};
 ghost use Rattle.std.specs.List.{AllByRecursion};
 
@@ -163,13 +168,103 @@ pub fn may_is_must_where_nothing_is_free()
 {}
 
 /// A packet is old exactly when the loss delay has passed since it was sent. That the loss delay is
-/// rounded up changes nothing: so it is by the exact fraction 9/8 of the RTT, too.
+/// rounded up changes nothing: so it is by the exact fraction of the RTT, too, which is 9/8 where a
+/// header names none.
 pub fn old_is_after_loss_delay()
     ensures delay { (c : Settings) (r : Estimate) (now : ℕ) (p : Packet) → (is_old c r now p ≡ true)
-        ↔ (loss_delay (granularity c) r ≤ now - p.time) }
+        ↔ (loss_delay c r ≤ now - p.time) }
     ensures exact { (c : Settings) (r : Estimate) (now : ℕ) (p : Packet) → (is_old c r now p ≡ true)
-        ↔ ((time_threshold_parts * max r.latest_rtt r.smoothed_rtt
+        ↔ ((c.options.time_threshold_eighths * max r.latest_rtt r.smoothed_rtt
         ≤ time_threshold_divisor * (now - p.time)) × (granularity c ≤ now - p.time)) }
+{}
+
+/// A packet that is old by a time threshold is old by each that is not greater.
+pub fn greater_threshold_makes_none_old()
+    ensures { (c : Settings) (more : ℕ) (r : Estimate) (now : ℕ) (p : Packet)
+        → c.options.time_threshold_eighths ≤ more
+        → is_old (with_time_threshold c more) r now p ≡ true → is_old c r now p ≡ true }
+{}
+
+/// A sample with no delay of the peer is the same whether the latest RTT is kept less the delay or
+/// not.
+pub fn no_delay_takes_nothing_off()
+    ensures { (less_delay : Bool) (r : Estimate) (latest_rtt now : ℕ)
+        → with_sample less_delay r latest_rtt 0 now ≡ with_sample false r latest_rtt 0 now }
+{}
+
+/// Recovery is told by times, of packets and of the last event: or by places, of their lines and of
+/// the event's, where the header says that the order decides (RFC 9002, B.5 and section 7.3.2).
+pub fn marks_are_times_or_places()
+    ensures sent_time { (c : Settings) (p : Packet) → c.options.recovery_by_order ≡ false
+        → sent_mark c p ≡ p.time }
+    ensures event_time { (c : Settings) (h : List Event) → c.options.recovery_by_order ≡ false
+        → event_mark c h ≡ last_time h }
+    ensures sent_place { (c : Settings) (p : Packet) → c.options.recovery_by_order ≡ true
+        → sent_mark c p ≡ p.place }
+    ensures event_place { (c : Settings) (e : Event) (h : List Event)
+        → c.options.recovery_by_order ≡ true → event_mark c (e ∷ h) ≡ length h }
+{}
+
+/// In a run a packet that does not have the time of an event was sent after it by the order of the
+/// lines exactly where it was by time. So where recovery began at that event, it is the same
+/// whether the header says that the order decides or not. In any case a packet that was sent after
+/// it by time was sent after it.
+pub fn order_decides_at_one_time()
+    ensures compared { (c : Settings) (f : Event) (between h : List Event) (p : Packet)
+        → IsRun c (between ++ f ∷ h) → Contains (packets (between ++ f ∷ h)) p
+        → p.time ≢ time_of f
+        → nat_lt (length h) p.place ≡ nat_lt (time_of f) p.time }
+    ensures recovery { (c : Settings) (f : Event) (between h : List Event) (p : Packet)
+        → IsRun c (between ++ f ∷ h) → Contains (packets (between ++ f ∷ h)) p
+        → p.time ≢ time_of f
+        → is_outside_recovery (Some (event_mark c (f ∷ h))) (sent_mark c p)
+        ≡ is_outside_recovery (Some (time_of f)) p.time }
+    ensures later { (c : Settings) (f : Event) (between h : List Event) (p : Packet)
+        → IsRun c (between ++ f ∷ h) → Contains (packets (between ++ f ∷ h)) p
+        → is_outside_recovery (Some (time_of f)) p.time ≡ true
+        → is_outside_recovery (Some (event_mark c (f ∷ h))) (sent_mark c p) ≡ true }
+{}
+
+/// Where no packet of a run has a time at which recovery began, the window and its threshold are
+/// the same whether the header says that the order of the lines decides or not, and so is whether
+/// the last event enters recovery.
+pub fn order_changes_no_window()
+    ensures window { (c : Settings) (h : List Event) → IsRun c h
+        → NoneAtStarts (with_recovery_by_order c false) (packets h) h
+        → window (with_recovery_by_order c true) h
+        ≡ window (with_recovery_by_order c false) h }
+    ensures ssthresh { (c : Settings) (h : List Event) → IsRun c h
+        → NoneAtStarts (with_recovery_by_order c false) (packets h) h
+        → ssthresh (with_recovery_by_order c true) h
+        ≡ ssthresh (with_recovery_by_order c false) h }
+    ensures entry { (c : Settings) (h : List Event) → IsRun c h
+        → NoneAtStarts (with_recovery_by_order c false) (packets h) h
+        → is_entry (with_recovery_by_order c true) h
+        ≡ is_entry (with_recovery_by_order c false) h }
+{}
+
+/// Where no event establishes persistent congestion, the estimate is that of the samples, whatever
+/// the header has persistent congestion do to it.
+pub fn no_congestion_changes_no_estimate()
+    ensures { (c : Settings) (h : List Event) → NeverPersistent c h → rtt c h ≡ samples_alone c h }
+{}
+
+/// Where the header says that the estimate is reset, it is after persistent congestion what it is
+/// before any sample, but for the latest RTT: the next sample is a first one, and until then no
+/// packet is an end of persistent congestion.
+pub fn reset_begins_again()
+    ensures start { (c : Settings) (e : Event) (h : List Event) → c.options.reset_rtt ≡ true
+        → is_persistent c (e ∷ h) ≡ true
+        → rtt c (e ∷ h) ≡ record (start c.initial_rtt) { latest_rtt = (rtt c (e ∷ h)).latest_rtt } }
+    ensures latest { (c : Settings) (e : Event) (h : List Event)
+        → (rtt c (e ∷ h)).latest_rtt ≡ (with_sample_of c (e ∷ h) (rtt c h)).latest_rtt }
+    ensures sample { (c : Settings) (e : Event) (h : List Event) → c.options.reset_rtt ≡ true
+        → is_persistent c (e ∷ h) ≡ true
+        → (less_delay : Bool) (latest_rtt ack_delay now : ℕ)
+        → with_sample less_delay (rtt c (e ∷ h)) latest_rtt ack_delay now
+        ≡ first_sample latest_rtt now }
+    ensures ends { (c : Settings) (e : Event) (h : List Event) → c.options.reset_rtt ≡ true
+        → is_persistent c (e ∷ h) ≡ true → (p : Packet) → is_end (rtt c (e ∷ h)) p ≡ false }
 {}
 
 /// In a run whose times are in their range the PTO count is at most 40: a timeout is not before its
@@ -198,14 +293,16 @@ pub fn bytes_in_flight_are_bounded()
         → bytes_in_flight c h ≤ max_packet_size * length h }
 {}
 
-/// A header that asks for no refresh has the RTT of its samples, one without a limit has no event
-/// that shows a late timer, one without a reported window has none that shows no collapse, and one
-/// without slack besides compares reported values exactly. So it is with each header of version 1
-/// that is read: it has no options.
+/// A header that asks for no reset and no refresh, and of samples that are kept whole, has the RTT
+/// of its samples, one without a limit has no event that shows a late timer, one without a reported
+/// window has none that shows no collapse, and one without slack besides compares reported values
+/// exactly. So it is with each header of version 1 that is read: it has no options.
 pub fn first_version_asks_no_more()
-    ensures rtt { (c : Settings) (h : List Event) → c.options.refresh_min_rtt ≡ false
+    ensures rtt { (c : Settings) (h : List Event) → c.options.reset_rtt ≡ false
+        → c.options.refresh_min_rtt ≡ false → c.options.latest_rtt_less_delay ≡ false
         → rtt c h ≡ rtt_by_samples c h }
-    ensures sampled { (c : Settings) (h : List Event) → c.options.refresh_min_rtt ≡ false
+    ensures sampled { (c : Settings) (h : List Event) → c.options.reset_rtt ≡ false
+        → c.options.refresh_min_rtt ≡ false → c.options.latest_rtt_less_delay ≡ false
         → sampled c h ≡ rtt_by_samples c h }
     ensures timers { (c : Settings) (h : List Event) (e : Event) → c.options.timer_late ≡ None
         → is_timer_late c h e ≡ false }

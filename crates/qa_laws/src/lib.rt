@@ -4,6 +4,7 @@
 #![tactic(auto)]
 
 pub mod conduct;
+pub mod counting;
 pub mod definitions;
 pub mod grounds;
 pub mod losses;

@@ -30,9 +30,9 @@ ghost use Rattle.qa_base.specs.values.Events.{acknowledges, is_quiet, is_space};
 ghost use Rattle.qa_base.specs.values.Settings.{Settings, granularity, is_may};
 ghost use Rattle.qa_base.specs.history.Among.{counts_as_end, finds_apart, is_persistent_among};
 ghost use Rattle.qa_base.specs.history.Declared.{is_named_free, named_free};
+ghost use Rattle.qa_laws.specs.machine.Conduct.{mark_of_first};
 ghost use Rattle.qa_laws.specs.machine.Fates.{fate, fate_next, is_unacknowledged};
-ghost use Rattle.qa_base.specs.history.Latest.{first_if_numbered, is_first_at_or_above};
-ghost use Rattle.qa_base.specs.history.Latest.{time_of_first};
+ghost use Rattle.qa_laws.specs.machine.Latest.{first_if_numbered, is_first_at_or_above};
 ghost use Rattle.qa_base.specs.history.Oldest.{NoneFlies, due_of, is_asked, is_flying, is_passed};
 ghost use Rattle.qa_base.specs.history.Parts.{AreClosed, AreDropped, AreOf, BeginsKept};
 ghost use Rattle.qa_base.specs.history.Sequence.{EachTwo, WasSentBefore};
@@ -58,18 +58,23 @@ pub fn lower_numbers_are_earlier()
         → EachTwo (λ p q. p.number < q.number) (filter (is_of s) kept) }
 {}
 
-/// Where a packet is past a threshold, so is one with a lower number that was sent no later. So it
-/// is in a run with each packet of its space that has a lower number (RFC 9002, section 6.1).
+/// Where a packet is past a threshold, so is one of its space with a lower number that was sent no
+/// later. So it is in a run with each packet of its space that has a lower number (RFC 9002,
+/// section 6.1).
 pub fn past_threshold_falls()
-    ensures any { (c : Settings) (r : Estimate) (now : ℕ) (largest : Option ℕ) (p q : Packet)
+    ensures any { (c : Settings) (r : Estimate) (h : List Event) (now : ℕ) (largest : Option ℕ)
+        (p q : Packet)
+        → p.space ≡ q.space
         → q.number ≤ p.number
         → q.time ≤ p.time
-        → is_past_threshold c r now largest p ≡ true → is_past_threshold c r now largest q ≡ true }
+        → is_past_threshold c r h now largest p ≡ true
+        → is_past_threshold c r h now largest q ≡ true }
     ensures in_run { (c : Settings) (h : List Event) → IsRun c h
         → (r : Estimate) (now : ℕ) (largest : Option ℕ) (p q : Packet)
         → Contains (packets h) p → Contains (packets h) q → is_of p.space q ≡ true
         → q.number ≤ p.number
-        → is_past_threshold c r now largest p ≡ true → is_past_threshold c r now largest q ≡ true }
+        → is_past_threshold c r h now largest p ≡ true
+        → is_past_threshold c r h now largest q ≡ true }
 {}
 
 /// In a run a packet that is not open is not open after one more event, and the packets declared
@@ -124,7 +129,9 @@ pub fn losses_are_a_front()
         → (s : Space) (now : ℕ) → detection c (e ∷ h) ≡ Some (s, now)
         → (front rest : List Packet) → reverse (packets h) ≡ front ++ rest → NoneFlies c h s front
         → reverse (owed c (e ∷ h))
-        ≡ take_while (is_past_threshold c (sampled c (e ∷ h)) now (largest_acknowledged (e ∷ h) s))
+        ≡ take_while
+        (is_past_threshold c (sampled c (e ∷ h)) (e ∷ h) now
+        (largest_acknowledged (e ∷ h) s))
         (filter (is_asked (e ∷ h) s) rest) }
     ensures passed { (c : Settings) (e : Event) (h : List Event) → IsRun c (e ∷ h)
         → (s : Space) (now : ℕ) → detection c (e ∷ h) ≡ Some (s, now)
@@ -133,13 +140,15 @@ pub fn losses_are_a_front()
         ≡ filter (is_asked (e ∷ h) s)
         (take_while
         (is_passed (e ∷ h) s
-        (is_past_threshold c (sampled c (e ∷ h)) now (largest_acknowledged (e ∷ h) s))) rest) }
+        (is_past_threshold c (sampled c (e ∷ h)) (e ∷ h) now
+        (largest_acknowledged (e ∷ h) s))) rest) }
     ensures after { (c : Settings) (e : Event) (h : List Event) → IsRun c (e ∷ h)
         → (s : Space) (now : ℕ) → detection c (e ∷ h) ≡ Some (s, now)
         → (front rest : List Packet) → reverse (packets h) ≡ front ++ rest → NoneFlies c h s front
         → NoneFlies c (e ∷ h) s (front
         ++ take_while (is_passed (e ∷ h) s
-        (is_past_threshold c (sampled c (e ∷ h)) now (largest_acknowledged (e ∷ h) s))) rest) }
+        (is_past_threshold c (sampled c (e ∷ h)) (e ∷ h) now
+        (largest_acknowledged (e ∷ h) s))) rest) }
 {}
 
 /// In a run one more event adds the packet that it sends to a sum over the open packets, and takes
@@ -274,7 +283,7 @@ pub fn bytes_after_an_event()
 /// In a run the latest packet decides: the packet with the largest number of an acknowledgment,
 /// where it is newly acknowledged, is the latest of those that are (RFC 9002, section 5.1); a
 /// number is at most that of some packet of a space exactly where it is at most that of the latest;
-/// and the last sending time of what is owed is that of the latest.
+/// and what is owed was last sent when the latest of it was, by time and by order.
 pub fn latest_packets_decide()
     ensures sampled { (c : Settings) (h : List Event) → IsRun c h
         → (ack : Acknowledgment)
@@ -283,7 +292,7 @@ pub fn latest_packets_decide()
     ensures number { (c : Settings) (h : List Event) → IsRun c h → (s : Space) (n : ℕ)
         → has_at_or_above s n h ≡ is_first_at_or_above n (packets_of h s) }
     ensures owed { (c : Settings) (h : List Event) → IsRun c h
-        → latest_sent (owed c h) ≡ time_of_first (owed c h) }
+        → latest_sent c (owed c h) ≡ mark_of_first c (owed c h) }
 {}
 
 /// As many packets of a history are of use as were sent since the first that is open or owed. In a

@@ -9,7 +9,7 @@ mod explains;
 mod facts;
 mod finding;
 
-pub use cause::{Basis, Cause, Comparison, Free, Oldest, Owed};
+pub use cause::{Basis, Cause, Comparison, Counted, Free, Oldest, Owed};
 pub use explains::Explains;
 pub use facts::Facts;
 pub use finding::{cause_of, owed_of};

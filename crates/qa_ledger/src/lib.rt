@@ -12,7 +12,8 @@ mod untolerated;
 mod violating;
 
 pub use causes::{
-    Basis, Cause, Comparison, Explains, Facts, Free, Oldest, Owed, Ranges, cause_of, owed_of,
+    Basis, Cause, Comparison, Counted, Explains, Facts, Free, Oldest, Owed, Ranges, cause_of,
+    owed_of,
 };
 pub use ledger::{Ledger, LedgerFault};
 pub use metrics::Quantities;

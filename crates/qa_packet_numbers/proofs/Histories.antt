@@ -1,15 +1,16 @@
 -- Sets that stand for the numbers of the packets that were sent.
-use Rattle.std.proofs.Common.{◌≡◌, ℕ, ◌+◌, ◌≤◌, Bool, true, false, ◌&&◌, ◌||◌, not, List, [], ◌∷◌, length, map, filter, Option, Some, None, refl, sym, ◌∙◌, ap, arith, inl, inr, ◌↔◌, IsTrue, nat_eq, nat_le}
+use Rattle.std.proofs.Common.{◌≡◌, ℕ, ◌+◌, ◌≤◌, Bool, true, false, ◌&&◌, ◌||◌, not, List, [], ◌∷◌, length, map, filter, Option, Some, None, refl, sym, ◌∙◌, ap, arith, inl, inr, ◌↔◌, IsTrue, nat_eq, nat_le, nat_lt, count_by}
 use Rattle.std.specs.List.{AllByRecursion, list_any}
 use Rattle.std.proofs.lemmas.Bool.{cases_Bool, and_parts, and_from, or_cases, or_left, or_right, or_from, eqb-true, eq-eqb, ne_eqb, both_ways, false_from_ne_true, le-leb, lt-leb, leb-true, leb-false}
 use Rattle.std.proofs.lemmas.List.{length-map}
-use Rattle.std.proofs.lemmas.List.Sums.{count_by-le-length}
+use Rattle.std.proofs.lemmas.List.Sums.{count_by-le-length, sum_by-cons}
 use Rattle.qa_base.specs.declared.event.Event.{Event}
 use Rattle.qa_base.specs.declared.event.Event.TheVariants.{Sent, Ack, Lost, Timer, Discard, Confirmed, Keys, Metrics}
 use Rattle.qa_base.specs.declared.event.SentPacket.{SentPacket}
 use Rattle.qa_base.specs.declared.space.Space.{Space}
 use Rattle.qa_base.specs.declared.space.Space.TheVariants.{Initial, Handshake, App}
 use Rattle.qa_base.specs.machine.Breaches.{has_at_or_above, numbers}
+use Rattle.qa_base.specs.machine.Detection.{count_between}
 use Rattle.qa_base.specs.machine.Kept.{numbers_of, runs_of, runs}
 use Rattle.qa_base.specs.machine.Numbers.{Names, is_in, has_range}
 use Rattle.qa_base.specs.machine.Order.{IsLower, NumbersFall}
@@ -22,6 +23,8 @@ use Rattle.qa_base.proofs.machine.RunLaws.{numbers_fall}
 use Rattle.qa_packet_numbers.specs.Runs.{AreApart, AreDistinct, HasEach, IsGreatest}
 use Rattle.qa_base.specs.values.PerSpace.{with_space}
 use Rattle.qa_packet_numbers.specs.Sent.{BySpace, AreSent, AreSentWith, runs_in}
+use Rattle.qa_packet_numbers.specs.Counting.{count_in}
+use Rattle.qa_packet_numbers.proofs.Counting.{count_cons, one_if}
 use Rattle.qa_packet_numbers.proofs.Counts.{counted}
 
 -- ---- no number, and one more
@@ -146,6 +149,17 @@ distinct_of s (p ∷ ps) falls =
 -- in a tolerated run no number of a space was sent twice
 pub numbers_distinct : (c : Settings) (h : List Event) (s : Space) → IsToleratedRun c h → AreDistinct (numbers_of h s)
 numbers_distinct c h s run = distinct_of s (packets h) (numbers_fall c h run)
+
+-- as many numbers were sent as packets
+between_numbers : (ps : List Packet) (n top : ℕ) → count_in (map (λ p. p.number) ps) n top ≡ count_by (λ (p : Packet). nat_lt n p.number && nat_le p.number top) ps
+between_numbers [] n top = refl
+between_numbers (p ∷ ps) n top =
+    count_cons n top p.number (map (λ p. p.number) ps)
+    ∙ (ap (λ k. one_if (nat_lt n p.number && nat_le p.number top) + k) (between_numbers ps n top)
+    ∙ sym (sum_by-cons (λ (p : Packet). one_if (nat_lt n p.number && nat_le p.number top)) p ps))
+
+pub sent_between : (h : List Event) (s : Space) (n top : ℕ) → count_in (numbers_of h s) n top ≡ count_between h s n top
+sent_between h s n top = between_numbers (packets_of h s) n top
 
 -- a set has as many runs as were sent in the space
 pub runs_are : (c : Settings) (h : List Event) (s : Space) (sets : BySpace) → IsToleratedRun c h → AreSent sets h → AreApart (runs_in sets s) → length (runs_in sets s) ≡ runs_of h s

@@ -3,3 +3,4 @@ pub mod Counts
 pub mod Histories
 pub mod Lacking
 pub mod Removed
+pub mod Counting

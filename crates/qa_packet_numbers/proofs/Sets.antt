@@ -37,7 +37,7 @@ above b (q ∷ qs) n all named =
 pub not_above : (b : ℕ) (runs : List (ℕ × ℕ)) (n : ℕ) → AllByRecursion (λ later. b + 1 < later.0) runs → n ≤ b + 1 → is_named runs n ≡ false
 not_above b runs n all low = false_from_ne_true (is_named runs n) (λ named. let high = above b runs n all named in omega arith)
 
-later_at : (b : ℕ) (runs : List (ℕ × ℕ)) (i : ℕ) (d : ℕ × ℕ) → AllByRecursion (λ later. b + 1 < later.0) runs → i < length runs → b + 1 < (get_or runs i d).0
+pub later_at : (b : ℕ) (runs : List (ℕ × ℕ)) (i : ℕ) (d : ℕ × ℕ) → AllByRecursion (λ later. b + 1 < later.0) runs → i < length runs → b + 1 < (get_or runs i d).0
 later_at b [] i d all within = absurd (omega arith)
 later_at b (q ∷ qs) zero d all within = all.0
 later_at b (q ∷ qs) (suc i) d all within = later_at b qs i d all.1 (omega arith)

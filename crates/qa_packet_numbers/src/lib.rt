@@ -2,6 +2,7 @@
 //! number.
 #![tactic(auto)]
 
+mod ending;
 mod missing;
 mod ranges;
 mod removing;

@@ -1,9 +1,10 @@
 //! The numbers of the packets that were sent, as a set for each packet number space.
 ghost use Rattle.std.specs.Prelude.{◌≡◌, ◌≤◌, ◌<◌, ◌+◌, ◌^◌, ℕ, List, [], ◌∷◌, length, true, OnOk};
-ghost use Rattle.std.specs.Prelude.{OnErr};
+ghost use Rattle.std.specs.Prelude.{OnErr, nat_le, nat_lt};
 ghost use Rattle.qa_base.specs.declared.event.Event.{Event as AnEvent};
 ghost use Rattle.qa_base.specs.declared.space.Space.TheVariants.{Initial, Handshake, App};
 ghost use Rattle.qa_base.specs.machine.Breaches as breaches;
+ghost use Rattle.qa_base.specs.machine.Detection.{count_between};
 ghost use Rattle.qa_base.specs.machine.Kept as kept;
 ghost use Rattle.qa_base.specs.machine.Numbers as numbers;
 ghost use Rattle.qa_base.specs.machine.Packets.{greatest_of};
@@ -89,6 +90,24 @@ impl SentNumbers {
             → result ≡ first_outside ranges.now (kept.numbers_of h space) }
     {
         self.sets.of(space).first_missing(ranges)
+    }
+
+    /// The number below which those lie that have at least so many sent numbers of the space above
+    /// them and up to `top`. 0 where there are none.
+    pub fn end_below(&self, space: Space, top: PacketNumber, count: u64) -> u64
+        requires { 1 ≤ count }
+        ensures { (c : Settings) (h : List AnEvent) → IsToleratedRun c h → AreSent self.now h
+            → (n : ℕ) → nat_lt n result ≡ nat_le count (count_between h space n top) }
+    {
+        self.sets.of(space).end_below(top, count)
+    }
+
+    /// How many packets of the space were sent with a number above one and up to another.
+    pub fn count_between(&self, space: Space, number: PacketNumber, top: PacketNumber) -> u64
+        ensures { (c : Settings) (h : List AnEvent) → IsToleratedRun c h → AreSent self.now h
+            → result ≡ count_between h space number top }
+    {
+        self.sets.of(space).count_between(number, top)
     }
 
     /// Adds the number of a packet that is sent in the space. `AllocError` comes where it is out of

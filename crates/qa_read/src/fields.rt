@@ -7,17 +7,19 @@ ghost use Rattle.std.specs.Result.{result_map_both};
 ghost use Rattle.serde_json.specs.View.{view};
 ghost use Rattle.qa_format.specs.format.Keys as keys;
 ghost use Rattle.qa_base.specs.values.Constants.{default_packet_threshold};
+ghost use Rattle.qa_base.specs.values.Constants.{default_time_threshold_eighths};
 ghost use Rattle.qa_base.specs.values.Limits.{max_packet_number, max_packet_size};
 ghost use Rattle.qa_base.specs.values.Names.{role_named, unit_named, controller_named};
-ghost use Rattle.qa_base.specs.values.Names.{loss_by_number_named, discarded_named};
+ghost use Rattle.qa_base.specs.values.Names.{loss_by_number_named, threshold_counts_named};
+ghost use Rattle.qa_base.specs.values.Names.{discarded_named};
 ghost use Rattle.qa_base.specs.values.Names.{permission_named, kind_named};
 ghost use Rattle.qa_format.specs.format.Tables as tables;
 
-use qa_base::constants::DEFAULT_PACKET_THRESHOLD;
+use qa_base::constants::{DEFAULT_PACKET_THRESHOLD, DEFAULT_TIME_THRESHOLD_EIGHTHS};
 use qa_base::limits::MAX_PACKET_SIZE;
 use qa_base::{
-    Controller, Field, Key, LossByNumber, PacketNumber, Permission, Role, Space, Ticks, TimeUnit,
-    TimerKind,
+    Controller, Field, Key, LossByNumber, PacketNumber, Permission, Role, Space, ThresholdCounts,
+    Ticks, TimeUnit, TimerKind,
 };
 use qa_format::Fault;
 use serde_json::Value;
@@ -225,6 +227,18 @@ pub fn loss_by_number(object: &Value) -> Result<Option<LossByNumber>, Fault>
     }
 }
 
+/// What the key `threshold_counts` names, if anything; `numbers` where it is absent. A word that is
+/// none of its values is judged behind the numbers of the header, and behind `loss_by_number`.
+pub fn threshold_counts(object: &Value) -> Result<Option<ThresholdCounts>, Fault>
+    ensures { result ≡ keys.optional (keys.string_naming threshold_counts_named)
+        (Some ThresholdCounts.Numbers) Key.ThresholdCounts (view object.now) }
+{
+    match present(Key::ThresholdCounts, object) {
+        None => Ok(Some(ThresholdCounts::Numbers)),
+        Some(value) => Ok(ThresholdCounts::named(string(Key::ThresholdCounts, value)?)),
+    }
+}
+
 /// The key `packet_threshold`, which is 3 where it is absent.
 pub fn packet_threshold(object: &Value) -> Result<u64, Fault>
     ensures { result ≡ keys.optional keys.integer default_packet_threshold Key.PacketThreshold
@@ -233,6 +247,17 @@ pub fn packet_threshold(object: &Value) -> Result<u64, Fault>
     match present(Key::PacketThreshold, object) {
         None => Ok(DEFAULT_PACKET_THRESHOLD),
         Some(value) => integer(Key::PacketThreshold, value),
+    }
+}
+
+/// The key `time_threshold_eighths`, which is 9 where it is absent.
+pub fn time_threshold_eighths(object: &Value) -> Result<u64, Fault>
+    ensures { result ≡ keys.optional keys.integer default_time_threshold_eighths
+        Key.TimeThresholdEighths (view object.now) }
+{
+    match present(Key::TimeThresholdEighths, object) {
+        None => Ok(DEFAULT_TIME_THRESHOLD_EIGHTHS),
+        Some(value) => integer(Key::TimeThresholdEighths, value),
     }
 }
 

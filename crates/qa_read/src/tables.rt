@@ -9,10 +9,11 @@ use crate::fault::LineFault;
 use crate::fields;
 use crate::fields::both;
 use crate::ranges::ranges;
+use qa_base::constants::DEFAULT_TIME_THRESHOLD_EIGHTHS;
 use qa_base::{
     Ack, ConnectionValues, Controller, Event, Field, Header, Key, LossByNumber, MetricValues,
-    Options, PacketNumber, Permission, RangeFault, Role, SentPacket, Space, Spans, Ticks, TimeUnit,
-    TimerKind, Version,
+    Options, PacketNumber, Permission, RangeFault, Role, SentPacket, Space, Spans, ThresholdCounts,
+    Ticks, TimeUnit, TimerKind, Version,
 };
 use qa_format::Fault;
 use serde_json::Value;
@@ -82,8 +83,15 @@ fn option_fields(object: &Value) -> Result<OptionFields, Fault>
 }
 
 /// What stands at the keys of the options that only version 3 has: those of the window and the
-/// samples, the packet threshold and how early timers may be, and what is said of losses by number.
-type ChoiceFields = ((bool, bool), ((u64, u64), Option<LossByNumber>));
+/// samples, the packet threshold and how early timers may be, the words, and what is said of a
+/// reset of the RTT, of the latest one, of the time threshold and of recovery.
+type ChoiceFields = (
+    (bool, bool),
+    ((u64, u64), (Words, ((bool, bool), (u64, bool)))),
+);
+
+/// What the words for losses by number and for what the packet threshold counts name, if anything.
+type Words = (Option<LossByNumber>, Option<ThresholdCounts>);
 
 fn choice_fields(object: &Value) -> Result<ChoiceFields, Fault>
     ensures { result ≡ tables.choice_fields (view object.now) }
@@ -96,13 +104,37 @@ fn choice_fields(object: &Value) -> Result<ChoiceFields, Fault>
         fields::packet_threshold(object),
         fields::integer_or_zero(Key::TimerEarlyUs, object),
     );
-    let rest = both(numbers, fields::loss_by_number(object));
+    let words = both(
+        fields::loss_by_number(object),
+        fields::threshold_counts(object),
+    );
+    let rtts = both(
+        fields::boolean_or_false(Key::ResetRtt, object),
+        fields::boolean_or_false(Key::LatestRttLessDelay, object),
+    );
+    let lasts = both(
+        fields::time_threshold_eighths(object),
+        fields::boolean_or_false(Key::RecoveryByOrder, object),
+    );
+    let delays = both(rtts, lasts);
+    let behind = both(words, delays);
+    let rest = both(numbers, behind);
     both(flags, rest)
 }
 
+/// The options of a header, and what is judged behind them: its words, and the time threshold in
+/// eighths of the RTT.
+type SaidOptions = (Options, (Words, u64));
+
+/// What is judged behind the options of a header that says nothing of it.
+const NOTHING_BEHIND: (Words, u64) = (
+    (Some(LossByNumber::Must), Some(ThresholdCounts::Numbers)),
+    DEFAULT_TIME_THRESHOLD_EIGHTHS,
+);
+
 /// The options of a header of version 2, which says nothing of what the sender chooses: losses by
 /// number must be declared.
-fn options_without_choices(object: &Value) -> Result<(Options, Option<LossByNumber>), Fault>
+fn options_without_choices(object: &Value) -> Result<SaidOptions, Fault>
     ensures { result ≡ tables.version_two_options (view object.now) }
 {
     let (machine, slack) = option_fields(object)?;
@@ -115,7 +147,7 @@ fn options_without_choices(object: &Value) -> Result<(Options, Option<LossByNumb
         report_slack_bytes,
         ..Options::default()
     };
-    Ok((options, Some(LossByNumber::Must)))
+    Ok((options, NOTHING_BEHIND))
 }
 
 /// What stands at the keys of all options of version 3.
@@ -126,16 +158,18 @@ fn option_and_choice_fields(object: &Value) -> Result<(OptionFields, ChoiceField
     both(option_fields(object), choice_fields(object))
 }
 
-/// The options of a header of version 3, but for whose window it is. What its word for losses by
-/// number names, if anything, stands beside them.
-fn options_with_choices(object: &Value) -> Result<(Options, Option<LossByNumber>), Fault>
+/// The options of a header of version 3, but for whose window it is, and what is judged behind
+/// them.
+fn options_with_choices(object: &Value) -> Result<SaidOptions, Fault>
     ensures { result ≡ tables.version_three_options (view object.now) }
 {
-    let ((machine, slack), (flags, (numbers, losses))) = option_and_choice_fields(object)?;
+    let ((machine, slack), (flags, (numbers, behind))) = option_and_choice_fields(object)?;
     let (timer_late, refresh_min_rtt) = machine;
     let (report_slack_us, report_slack_bytes) = slack;
     let (window_overshoot, sample_eliciting_only) = flags;
     let (packet_threshold, timer_early_us) = numbers;
+    let (words, (rtts, (time_threshold_eighths, recovery_by_order))) = behind;
+    let (reset_rtt, latest_rtt_less_delay) = rtts;
     let options = Options {
         timer_late,
         refresh_min_rtt,
@@ -145,20 +179,23 @@ fn options_with_choices(object: &Value) -> Result<(Options, Option<LossByNumber>
         sample_eliciting_only,
         packet_threshold,
         timer_early_us,
+        reset_rtt,
+        latest_rtt_less_delay,
+        recovery_by_order,
         ..Options::default()
     };
-    Ok((options, losses))
+    Ok((options, (words, time_threshold_eighths)))
 }
 
 /// The options of a header. A key that its version has not is looked at no more than any key that
 /// no table has.
-fn options(object: &Value) -> Result<(Options, Option<LossByNumber>), Fault>
+fn options(object: &Value) -> Result<SaidOptions, Fault>
     ensures { result ≡ tables.options (view object.now) }
 {
     match fields::required_integer(Key::Version, object) {
         Ok(version) if version == Version::Two.number() => options_without_choices(object),
         Ok(version) if version == Version::Three.number() => options_with_choices(object),
-        _ => Ok((Options::default(), Some(LossByNumber::Must))),
+        _ => Ok((Options::default(), NOTHING_BEHIND)),
     }
 }
 
@@ -202,8 +239,35 @@ fn with_losses(losses: Option<LossByNumber>, header: Header) -> Result<Header, F
     }
 }
 
+/// The header with what its word says that the packet threshold counts, if anything.
+fn with_counts(counts: Option<ThresholdCounts>, header: Header) -> Result<Header, Fault>
+    ensures { result ≡ tables.with_counts counts header }
+{
+    match counts {
+        None => Err(Fault::OutOfRange(Key::ThresholdCounts)),
+        Some(ThresholdCounts::Numbers) => Ok(header),
+        Some(ThresholdCounts::Packets) => out_of_range(header.choosing(Options {
+            threshold_counts: ThresholdCounts::Packets,
+            ..header.options()
+        })),
+    }
+}
+
+/// The header with a time threshold of so many eighths of the RTT.
+fn with_eighths(eighths: u64, header: Header) -> Result<Header, Fault>
+    ensures { result ≡ tables.with_eighths eighths header }
+{
+    if eighths == DEFAULT_TIME_THRESHOLD_EIGHTHS {
+        return Ok(header);
+    }
+    out_of_range(header.choosing(Options {
+        time_threshold_eighths: eighths,
+        ..header.options()
+    }))
+}
+
 /// What stands at all keys of a header.
-fn header_values(object: &Value) -> Result<(HeaderFields, (Options, Option<LossByNumber>)), Fault>
+fn header_values(object: &Value) -> Result<(HeaderFields, SaidOptions), Fault>
     ensures { result ≡ keys.both (tables.header_fields (view object.now))
         (tables.options (view object.now)) }
 {
@@ -215,7 +279,7 @@ fn header_values(object: &Value) -> Result<(HeaderFields, (Options, Option<LossB
 pub fn header_of(object: &Value) -> Result<Header, Fault>
     ensures { result ≡ tables.header_of (view object.now) }
 {
-    let (fields, (options, losses)) = header_values(object)?;
+    let (fields, (options, ((losses, counts), eighths))) = header_values(object)?;
     let ((version, role), ((unit, controller), (most, initial))) = fields;
     let (max_datagram_size, max_ack_delay) = most;
     let (initial_rtt, initial_window) = initial;
@@ -232,7 +296,9 @@ pub fn header_of(object: &Value) -> Result<Header, Fault>
     };
     let header = out_of_range(Header::in_unit(unit, values))?;
     let header = of_version(version, options, header)?;
-    with_losses(losses, header)
+    let header = with_losses(losses, header)?;
+    let header = with_counts(counts, header)?;
+    with_eighths(eighths, header)
 }
 
 // ---- packets

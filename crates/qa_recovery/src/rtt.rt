@@ -1,14 +1,11 @@
 //! The estimate of the round-trip time (RFC 9002, section 5).
 ghost use Rattle.std.specs.Prelude.{◌≡◌, ◌≤◌, ◌-◌, ◌+◌, ◌*◌, ◌/◌};
 ghost use Rattle.qa_base.specs.values.Constants.{persistent_congestion_threshold};
-ghost use Rattle.qa_base.specs.values.Constants.{time_threshold_parts, time_threshold_divisor};
 ghost use Rattle.qa_base.specs.values.Limits.{max_time};
 ghost use Rattle.qa_base.specs.machine.Rtt as estimates;
 
-use qa_base::Ticks;
-use qa_base::constants::{
-    PERSISTENT_CONGESTION_THRESHOLD, TIME_THRESHOLD_DIVISOR, TIME_THRESHOLD_PARTS,
-};
+use qa_base::constants::{PERSISTENT_CONGESTION_THRESHOLD, TIME_THRESHOLD_DIVISOR};
+use qa_base::{Header, Ticks};
 use std::marker::Model;
 
 /// What a sender knows of the round-trip time. All times are in the unit of the trace.
@@ -69,9 +66,10 @@ impl Rtt {
     /// in the same unit, already limited, and `now` the time of the acknowledgment.
     ///
     /// The delay is taken off the sample unless that leaves less than `min_rtt`. `rttvar` is
-    /// computed by the smoothed RTT before the sample.
-    pub fn sample(&mut self, latest_rtt: Ticks, ack_delay: u64, now: Ticks)
-        ensures { self.new ≡ estimates.with_sample self.old latest_rtt ack_delay now }
+    /// computed by the smoothed RTT before the sample. With `less_delay` the latest RTT is the
+    /// sample without the delay, too, unless the sample is the first.
+    pub fn sample(&mut self, less_delay: bool, latest_rtt: Ticks, ack_delay: u64, now: Ticks)
+        ensures { self.new ≡ estimates.with_sample less_delay self.old latest_rtt ack_delay now }
     {
         if self.first_rtt_sample.is_none() {
             *self = Rtt {
@@ -87,7 +85,11 @@ impl Rtt {
         let adjusted_rtt = adjusted(min_rtt.get(), latest_rtt.get(), ack_delay);
         let smoothed_rtt = self.smoothed_rtt.get();
         *self = Rtt {
-            latest_rtt,
+            latest_rtt: if less_delay {
+                Ticks::of(adjusted_rtt)
+            } else {
+                latest_rtt
+            },
             min_rtt,
             smoothed_rtt: Ticks::of((7 * smoothed_rtt + adjusted_rtt) / 8),
             rttvar: Ticks::of((3 * self.rttvar.get() + smoothed_rtt.abs_diff(adjusted_rtt)) / 4),
@@ -103,16 +105,27 @@ impl Rtt {
         self.min_rtt = self.latest_rtt;
     }
 
-    /// How long after it was sent a packet below the largest acknowledged number is lost: the time
-    /// threshold of the greater of the latest and the smoothed RTT, rounded up, and the granularity
-    /// at least, in the unit of the trace (RFC 9002, section 6.1.2).
-    pub fn loss_delay(&self, granularity: Ticks) -> u64
-        ensures value { result ≡ estimates.loss_delay granularity self.now }
-        ensures bound { result ≤ time_threshold_parts * max_time / time_threshold_divisor }
+    /// Begins the estimate again after persistent congestion, as a sender may (RFC 9002, section
+    /// 5.2): but for the latest sample it is as before the first, and the next is a first one.
+    pub fn reset(&mut self, initial_rtt: Ticks)
+        ensures { self.new ≡ estimates.reset initial_rtt self.old }
+    {
+        *self = Rtt {
+            latest_rtt: self.latest_rtt,
+            ..Rtt::start(initial_rtt)
+        };
+    }
+
+    /// How long after it was sent a packet below the largest acknowledged number is lost: the
+    /// header's time threshold of the greater of the latest and the smoothed RTT, rounded up, and
+    /// the granularity at least, in the unit of the trace (RFC 9002, section 6.1.2).
+    pub fn loss_delay(&self, header: &Header) -> u64
+        ensures value { result ≡ estimates.loss_delay header.now self.now }
+        ensures bound { result ≤ 4 * max_time }
     {
         let rtt = self.latest_rtt.get().max(self.smoothed_rtt.get());
-        let parts = TIME_THRESHOLD_PARTS * rtt + (TIME_THRESHOLD_DIVISOR - 1);
-        (parts / TIME_THRESHOLD_DIVISOR).max(granularity.get())
+        let parts = header.time_threshold_eighths() * rtt + (TIME_THRESHOLD_DIVISOR - 1);
+        (parts / TIME_THRESHOLD_DIVISOR).max(header.granularity().get())
     }
 
     /// The probe timeout before the peer's delay and the backoff, in the unit: the smoothed

@@ -4,6 +4,7 @@ use Rattle.std.specs.List.{list_any}
 use Rattle.std.specs.Prelude.{if◌then◌else◌}
 use Rattle.qa_base.specs.machine.Packets.{Packet}
 use Rattle.qa_base.specs.machine.Reno.{grows}
+use Rattle.qa_base.specs.values.Settings.{Settings}
 use Rattle.qa_reference.proofs.Moved.{grows_bare}
 
 -- it passes, and is the one that is asked for
@@ -13,8 +14,8 @@ any_here asked test p ps passes is = rw (passes, is) refl
 pub found_here : (asked test : Packet → Bool) (p : Packet) (ps : List Packet) → test p ≡ true → asked p ≡ true → find asked (filter test (p ∷ ps)) ≡ Some p
 found_here asked test p ps passes is = rw (passes, is) refl
 
-pub grows_passing : (test : Packet → Bool) (p : Packet) (ps : List Packet) → test p ≡ true → grows (filter test (p ∷ ps)) ≡ grows (p ∷ filter test ps)
-grows_passing test p ps passes = rw passes refl
+pub grows_passing : (c : Settings) (test : Packet → Bool) (p : Packet) (ps : List Packet) → test p ≡ true → grows c (filter test (p ∷ ps)) ≡ grows c (p ∷ filter test ps)
+grows_passing c test p ps passes = rw passes refl
 
 -- it does not pass, or is not
 any_if : (asked : Packet → Bool) (p : Packet) (ps : List Packet) (b a : Bool) → asked p ≡ a → (b && a) ≡ false → list_any asked (if b then p ∷ ps else ps) ≡ list_any asked ps
@@ -33,11 +34,11 @@ found_if asked p ps false a is none = refl
 pub found_later : (asked test : Packet → Bool) (p : Packet) (ps : List Packet) → (test p && asked p) ≡ false → find asked (filter test (p ∷ ps)) ≡ find asked (filter test ps)
 found_later asked test p ps none = found_if asked p (filter test ps) (test p) (asked p) refl none
 
-grows_if : (p : Packet) (ps : List Packet) (b a : Bool) → p.in_flight ≡ a → (b && a) ≡ false → grows (if b then p ∷ ps else ps) ≡ grows ps
-grows_if p ps true true is none = cc
-grows_if p ps true false is none = grows_bare p ps is
-grows_if p ps false a is none = refl
+grows_if : (c : Settings) (p : Packet) (ps : List Packet) (b a : Bool) → p.in_flight ≡ a → (b && a) ≡ false → grows c (if b then p ∷ ps else ps) ≡ grows c ps
+grows_if c p ps true true is none = cc
+grows_if c p ps true false is none = grows_bare c p ps is
+grows_if c p ps false a is none = refl
 
 -- it does not pass, or is not in flight
-pub grows_later : (test : Packet → Bool) (p : Packet) (ps : List Packet) → (test p && p.in_flight) ≡ false → grows (filter test (p ∷ ps)) ≡ grows (filter test ps)
-grows_later test p ps none = grows_if p (filter test ps) (test p) p.in_flight refl none
+pub grows_later : (c : Settings) (test : Packet → Bool) (p : Packet) (ps : List Packet) → (test p && p.in_flight) ≡ false → grows c (filter test (p ∷ ps)) ≡ grows c (filter test ps)
+grows_later c test p ps none = grows_if c p (filter test ps) (test p) p.in_flight refl none

@@ -7,10 +7,10 @@ pub mod Entries
 pub mod Answered
 pub mod Powers
 pub mod Followed
-pub mod Refreshed
 pub mod Late
 pub mod Filtered
 pub mod Sound
 pub mod Counted
 pub mod Thirds
 pub mod Reports
+pub mod Places

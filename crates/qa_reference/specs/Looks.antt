@@ -32,7 +32,7 @@ IsSeen c r h look =
     (look.rtt ≡ r) × (look.detection ≡ detection_by c r h)
     × (look.largest ≡ largest_there h (detection_by c r h)) × (look.header ≡ c)
 
--- .. by that with the last event's sample, before a refresh
+-- .. by that by which the losses of its last event are found
 abbrev pub IsLook : Settings → List Event → Seen → Type 0
 IsLook c h look = IsSeen c (sampled c h) h look
 
@@ -41,7 +41,7 @@ abbrev pub is_found_where : Settings → List Event → Estimate → Option ℕ 
     → Option (Space × ℕ) → Bool
 is_found_where c h r largest p None = false
 is_found_where c h r largest p (Some (s, now)) =
-    is_of s p && (p.in_flight && is_unsettled h p && is_past_threshold c r now largest p)
+    is_of s p && (p.in_flight && is_unsettled h p && is_past_threshold c r h now largest p)
 
 -- by what is seen, the last event found the packet lost
 abbrev pub is_found_by : List Event → Seen → Packet → Bool
@@ -62,7 +62,7 @@ abbrev pub is_left_where : Settings → List Event → Estimate → Option ℕ �
     → Bool
 is_left_where c h r largest p None = false
 is_left_where c h r largest p (Some (s, now)) =
-    is_of s p && (p.in_flight && is_unsettled h p && may_be_spared c r now largest p)
+    is_of s p && (p.in_flight && is_unsettled h p && may_be_spared c r h now largest p)
 
 -- by what is seen, the last event did
 abbrev pub is_left_by : List Event → Seen → Packet → Bool

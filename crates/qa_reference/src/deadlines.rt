@@ -3,9 +3,11 @@ ghost use Rattle.std.specs.Prelude.{◌≡◌, ◌∷◌, ◌≤◌, ◌<◌, �
 ghost use Rattle.std.specs.Prelude.{map, if◌then◌else◌};
 ghost use Rattle.std.specs.List.{list_any};
 ghost use Rattle.qa_base.specs.declared.event.Event.{Event};
+ghost use Rattle.qa_base.specs.machine.Estimates as estimates;
 ghost use Rattle.qa_base.specs.machine.Handshake as handshake;
 ghost use Rattle.qa_base.specs.machine.Packets as packets;
 ghost use Rattle.qa_base.specs.machine.Packets.{history_of, packets_of};
+ghost use Rattle.qa_reference.specs.Estimated.{IsTimerLook};
 ghost use Rattle.qa_reference.specs.Looks.{IsLook};
 ghost use Rattle.qa_base.specs.machine.Timer as timers;
 ghost use Rattle.qa_base.specs.declared.space.Space.TheVariants as spaces;
@@ -16,6 +18,16 @@ use crate::losses::{Look, is_open};
 use crate::packet::{Packet, is_below_largest, packet_in, sooner};
 use crate::settled::{acknowledges_new, largest_acknowledged};
 use qa_base::{Due, Event, Header, Space, Ticks, TimerKind};
+use qa_recovery::Rtt;
+
+/// What is found out of a history once, before it is asked what the timer is set for.
+#[derive(Clone, Copy)]
+pub struct TimerLook {
+    /// What is known of its packets.
+    pub look: Look,
+    /// The estimate of the round-trip time after the last event.
+    pub rtt: Rtt,
+}
 
 /// Whether the packet is lost once it is old: open, in flight, below the largest acknowledged
 /// number of its space.
@@ -51,22 +63,21 @@ fn first_awaiting(header: &Header, events: &[Event], look: Look, space: Space) -
 }
 
 /// When the first packet of the space is old.
-#[tactic(auto, using(crate::proofs::Refreshed::same_loss_delay))]
-fn loss_due(header: &Header, events: &[Event], look: Look, space: Space) -> Option<Due>
-    requires seen { IsLook header.now (history_of events.now) look }
+fn loss_due(header: &Header, events: &[Event], look: &TimerLook, space: Space) -> Option<Due>
+    requires seen { IsTimerLook header.now (history_of events.now) look.now }
     ensures { result ≡ timers.loss_due header.now (history_of events.now) space }
 {
-    let sent = first_awaiting(header, events, look, space)?;
+    let sent = first_awaiting(header, events, look.look, space)?;
     Some(Due {
         kind: TimerKind::Loss,
         space,
-        time: u128::from(sent.get() + look.rtt.loss_delay(header.granularity())),
+        time: u128::from(sent.get() + look.rtt.loss_delay(header)),
     })
 }
 
 /// The earliest of these of all spaces.
-fn earliest_loss(header: &Header, events: &[Event], look: Look) -> Option<Due>
-    requires seen { IsLook header.now (history_of events.now) look }
+fn earliest_loss(header: &Header, events: &[Event], look: &TimerLook) -> Option<Due>
+    requires seen { IsTimerLook header.now (history_of events.now) look.now }
     ensures { result ≡ timers.earliest_loss header.now (history_of events.now) }
 {
     Due::earlier(
@@ -110,25 +121,25 @@ pub fn last_eliciting(events: &[Event], space: Space) -> Option<Ticks>
     last
 }
 
-impl Look {
+impl TimerLook {
     /// The probe timeout of the space, doubled for each before it, of which there were `count`. The
     /// peer may delay its acknowledgments by `peer_delay`.
-    #[tactic(auto, using(crate::proofs::Powers::few_doublings, crate::proofs::Refreshed::same_pto_base))]
+    #[tactic(auto, using(crate::proofs::Powers::few_doublings))]
     fn pto_due(
-        self,
+        &self,
         header: &Header,
         events: &[Event],
         count: u64,
         peer_delay: u64,
         space: Space,
     ) -> Option<Due>
-        requires seen { IsLook header.now (history_of events.now) self }
+        requires seen { IsTimerLook header.now (history_of events.now) self.now }
         requires counted { count ≡ timers.pto_count header.now (history_of events.now) }
         requires few { count ≤ 40 }
         requires delay { peer_delay ≤ max_max_ack_delay_ns }
         ensures { result ≡ timers.pto_due header.now (history_of events.now) peer_delay space }
     {
-        if !some_awaits(header, events, self, space) {
+        if !some_awaits(header, events, self.look, space) {
             return None;
         }
         let sent = last_eliciting(events, space)?;
@@ -138,8 +149,8 @@ impl Look {
 }
 
 /// The probe timeout of application data, which counts once the handshake is confirmed.
-fn app_pto(header: &Header, events: &[Event], look: Look, count: u64) -> Option<Due>
-    requires seen { IsLook header.now (history_of events.now) look }
+fn app_pto(header: &Header, events: &[Event], look: &TimerLook, count: u64) -> Option<Due>
+    requires seen { IsTimerLook header.now (history_of events.now) look.now }
     requires counted { count ≡ timers.pto_count header.now (history_of events.now) }
     requires few { count ≤ 40 }
     ensures { result ≡ (if handshake.is_confirmed
@@ -153,8 +164,8 @@ fn app_pto(header: &Header, events: &[Event], look: Look, count: u64) -> Option<
 }
 
 /// The earliest probe timeout of all spaces.
-fn earliest_pto(header: &Header, events: &[Event], look: Look, count: u64) -> Option<Due>
-    requires seen { IsLook header.now (history_of events.now) look }
+fn earliest_pto(header: &Header, events: &[Event], look: &TimerLook, count: u64) -> Option<Due>
+    requires seen { IsTimerLook header.now (history_of events.now) look.now }
     requires counted { count ≡ timers.pto_count header.now (history_of events.now) }
     requires few { count ≤ 40 }
     ensures { result ≡ timers.earliest_pto header.now (history_of events.now) }
@@ -193,9 +204,9 @@ pub fn last_set(events: &[Event]) -> Option<Ticks>
 }
 
 /// The timer that a client keeps until its address is validated (RFC 9002, section 6.2.2.1).
-#[tactic(auto, using(crate::proofs::Powers::few_doublings, crate::proofs::Refreshed::same_pto_base))]
-fn anti_deadlock(header: &Header, events: &[Event], look: Look, count: u64) -> Option<Due>
-    requires seen { IsLook header.now (history_of events.now) look }
+#[tactic(auto, using(crate::proofs::Powers::few_doublings))]
+fn anti_deadlock(header: &Header, events: &[Event], rtt: Rtt, count: u64) -> Option<Due>
+    requires known { rtt ≡ estimates.rtt header.now (history_of events.now) }
     requires counted { count ≡ timers.pto_count header.now (history_of events.now) }
     requires few { count ≤ 40 }
     ensures { result ≡ timers.anti_deadlock header.now (history_of events.now) }
@@ -209,12 +220,17 @@ fn anti_deadlock(header: &Header, events: &[Event], look: Look, count: u64) -> O
         Space::Initial
     };
     let set = last_set(events)?;
-    Some(Due::probe_timeout(space, set, look.rtt.pto_base(header.granularity()), count))
+    Some(Due::probe_timeout(space, set, rtt.pto_base(header.granularity()), count))
 }
 
 /// What the timer is set for by packets: one that will be old, else a probe timeout.
-pub fn packet_deadline(header: &Header, events: &[Event], look: Look, count: u64) -> Option<Due>
-    requires seen { IsLook header.now (history_of events.now) look }
+pub fn packet_deadline(
+    header: &Header,
+    events: &[Event],
+    look: &TimerLook,
+    count: u64,
+) -> Option<Due>
+    requires seen { IsTimerLook header.now (history_of events.now) look.now }
     requires counted { count ≡ timers.pto_count header.now (history_of events.now) }
     requires few { count ≤ 40 }
     ensures { result ≡ timers.packet_deadline header.now (history_of events.now) }
@@ -224,13 +240,13 @@ pub fn packet_deadline(header: &Header, events: &[Event], look: Look, count: u64
 
 /// What the timer is set for: a packet that will be old, else a probe timeout, else the timer that
 /// a client keeps until its address is validated.
-pub fn deadline(header: &Header, events: &[Event], look: Look, count: u64) -> Option<Due>
-    requires seen { IsLook header.now (history_of events.now) look }
+pub fn deadline(header: &Header, events: &[Event], look: &TimerLook, count: u64) -> Option<Due>
+    requires seen { IsTimerLook header.now (history_of events.now) look.now }
     requires counted { count ≡ timers.pto_count header.now (history_of events.now) }
     requires few { count ≤ 40 }
     ensures { result ≡ timers.deadline header.now (history_of events.now) }
 {
     earliest_loss(header, events, look)
         .or(earliest_pto(header, events, look, count))
-        .or(anti_deadlock(header, events, look, count))
+        .or(anti_deadlock(header, events, look.rtt, count))
 }

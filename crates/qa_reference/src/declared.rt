@@ -36,7 +36,7 @@ impl Model for Losses {
 }
 
 impl Losses {
-    /// The estimate of the round-trip time with the last event's sample, before a refresh.
+    /// The estimate of the round-trip time by which they are found.
     pub fn rtt(self) -> Rtt
         ensures { result ≡ self.look.rtt }
     {

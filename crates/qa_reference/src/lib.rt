@@ -15,6 +15,7 @@
 mod congestion;
 mod deadlines;
 mod declared;
+mod distance;
 mod estimates;
 mod event;
 mod handshake;

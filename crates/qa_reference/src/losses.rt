@@ -12,6 +12,7 @@ ghost use Rattle.qa_reference.specs.Looks.{IsLook, IsSeen, is_found_by, is_left_
 ghost use Rattle.qa_reference.specs.Looks.{largest_there as largest_there_of};
 ghost use Rattle.std.specs.List.{list_any};
 
+use crate::distance::distance_below;
 use crate::packet::{Packet, is_below_largest, packet_in, packet_of, sooner};
 use crate::settled::{
     acknowledges_new, is_acknowledged, is_declared_lost, is_discarded, largest_acknowledged,
@@ -23,7 +24,7 @@ use std::marker::Model;
 /// What is found out of a history once, before its packets are asked.
 #[derive(Clone, Copy)]
 pub struct Look {
-    /// The estimate of the round-trip time with the last event's sample, before a refresh.
+    /// The estimate of the round-trip time by which losses are found.
     pub rtt: Rtt,
     /// Where, and as of when, the last event looks for losses.
     pub detection: Option<(Space, u64)>,
@@ -53,58 +54,62 @@ impl Model for Look {
 fn is_old(header: &Header, rtt: Rtt, now: u64, packet: Packet) -> bool
     ensures { result ≡ detections.is_old header.now rtt now packet }
 {
-    rtt.loss_delay(header.granularity()) <= now.saturating_sub(packet.time.get())
+    rtt.loss_delay(header) <= now.saturating_sub(packet.time.get())
 }
 
 /// Whether the packet is below the largest acknowledged number by the sender's packet threshold.
-fn is_far_below(header: &Header, largest: u64, packet: Packet) -> bool
-    ensures { result ≡ detections.is_far_below header.now largest packet }
+fn is_far_below(header: &Header, events: &[Event], largest: u64, packet: Packet) -> bool
+    ensures { result
+        ≡ detections.is_far_below header.now (history_of events.now) largest packet }
 {
-    header.options().packet_threshold <= largest.saturating_sub(packet.number.get())
+    let options = header.options();
+    let number = packet.number.get();
+    let counts = options.threshold_counts;
+    options.packet_threshold <= distance_below(counts, events, packet.space, number, largest)
 }
 
 /// Whether the packet is below the largest acknowledged number, for long enough or, where such
 /// packets must be lost, by the sender's packet threshold.
-fn is_past_threshold(
-    header: &Header,
-    rtt: Rtt,
-    now: u64,
-    largest: Option<u64>,
-    packet: Packet,
-) -> bool
-    ensures { result ≡ detections.is_past_threshold header.now rtt now largest packet }
+fn is_past_threshold(events: &[Event], look: Look, now: u64, packet: Packet) -> bool
+    ensures { result ≡ detections.is_past_threshold look.header look.rtt (history_of events.now) now
+        look.largest packet }
 {
-    match largest {
+    let header = look.header;
+    match look.largest {
         None => false,
         Some(largest) => {
             packet.number.get() < largest
                 && ((!header.options().loss_by_number.is_may()
-                    && is_far_below(header, largest, packet))
-                    || is_old(header, rtt, now, packet))
+                    && is_far_below(&header, events, largest, packet))
+                    || is_old(&header, look.rtt, now, packet))
         }
     }
 }
 
 /// Whether the packet is below the largest acknowledged number by the sender's packet threshold,
 /// and such packets may be spared.
-fn is_far_enough(header: &Header, largest: u64, packet: Packet) -> bool
+fn is_far_enough(header: &Header, events: &[Event], largest: u64, packet: Packet) -> bool
     ensures { result ≡ (nat_lt packet.number largest
         && (is_may header.now.options.loss_by_number
-        && detections.is_far_below header.now largest packet)) }
+        && detections.is_far_below header.now (history_of events.now) largest packet)) }
 {
     packet.number.get() < largest
-        && (header.options().loss_by_number.is_may() && is_far_below(header, largest, packet))
+        && (header.options().loss_by_number.is_may()
+            && is_far_below(header, events, largest, packet))
 }
 
 /// Whether the packet may be spared though it is below the largest acknowledged number by the
 /// sender's packet threshold: the header says so, and the packet is not old.
-fn may_be_spared(header: &Header, rtt: Rtt, now: u64, largest: Option<u64>, packet: Packet) -> bool
-    ensures { result ≡ detections.may_be_spared header.now rtt now largest packet }
+fn may_be_spared(events: &[Event], look: Look, now: u64, packet: Packet) -> bool
+    ensures { result ≡ detections.may_be_spared look.header look.rtt (history_of events.now) now
+        look.largest packet }
 {
-    match largest {
+    let header = look.header;
+    match look.largest {
         None => false,
         Some(largest) => {
-            is_far_enough(header, largest, packet) && !is_old(header, rtt, now, packet)
+            is_far_enough(&header, events, largest, packet)
+                && !is_old(&header, look.rtt, now, packet)
         }
     }
 }
@@ -152,7 +157,7 @@ fn looks_at(header: &Header, before: &[Event], rtt: Rtt, time: Ticks, space: Spa
     match first_awaiting(before, space) {
         None => time.get(),
         Some(sent) => {
-            let due = sent.get() + rtt.loss_delay(header.granularity());
+            let due = sent.get() + rtt.loss_delay(header);
             let latest = time.get() + header.timer_early();
             time.get().max(due.min(latest))
         }
@@ -196,7 +201,7 @@ fn largest_there(events: &[Event], detection: Option<(Space, u64)>) -> Option<u6
     largest_acknowledged(events, space)
 }
 
-/// What is known of the history, with its estimate before a refresh.
+/// What is known of the history, with the estimate by which its losses are found.
 pub fn look_at(header: &Header, events: &[Event], rtt: Rtt) -> Look
     requires known { rtt ≡ estimates.sampled header.now (history_of events.now) }
     ensures { IsLook header.now (history_of events.now) result }
@@ -221,10 +226,10 @@ pub fn look_by(header: &Header, events: &[Event], rtt: Rtt) -> Look
 #[tactic(auto, using(crate::proofs::Owed::and_turned))]
 fn is_late_open(events: &[Event], look: Look, now: u64, packet: Packet) -> bool
     ensures { result ≡ (detections.is_unsettled (history_of events.now) packet
-        && detections.is_past_threshold look.header look.rtt now look.largest packet) }
+        && detections.is_past_threshold look.header look.rtt (history_of events.now) now
+        look.largest packet) }
 {
-    is_past_threshold(&look.header, look.rtt, now, look.largest, packet)
-        && is_unsettled(events, packet)
+    is_past_threshold(events, look, now, packet) && is_unsettled(events, packet)
 }
 
 /// Whether by what is known the last event found the packet lost.
@@ -254,9 +259,10 @@ pub fn found_of(events: &[Event], look: Look, place: usize, event: &Event) -> Op
 #[tactic(auto, using(crate::proofs::Owed::and_turned))]
 fn is_spared_open(events: &[Event], look: Look, now: u64, packet: Packet) -> bool
     ensures { result ≡ (detections.is_unsettled (history_of events.now) packet
-        && detections.may_be_spared look.header look.rtt now look.largest packet) }
+        && detections.may_be_spared look.header look.rtt (history_of events.now) now look.largest
+        packet) }
 {
-    may_be_spared(&look.header, look.rtt, now, look.largest, packet) && is_unsettled(events, packet)
+    may_be_spared(events, look, now, packet) && is_unsettled(events, packet)
 }
 
 /// Whether by what is known the last event left it to the sender whether the packet is lost.

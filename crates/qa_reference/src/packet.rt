@@ -1,9 +1,11 @@
 //! Packets, as the events tell them that sent them.
-ghost use Rattle.std.specs.Prelude.{◌≡◌, filter, min, unwrap_or};
+ghost use Rattle.std.specs.Prelude.{◌≡◌, ◌≤◌, filter, min, unwrap_or};
 ghost use Rattle.qa_base.specs.machine.Packets as packets;
+ghost use Rattle.qa_base.specs.machine.Reno.{sent_mark};
+ghost use Rattle.qa_base.specs.values.Limits.{max_time};
 ghost use Rattle.qa_reference.specs.Listed.{listed};
 
-use qa_base::{Event, PacketNumber, Permission, Space, Ticks};
+use qa_base::{Event, Header, PacketNumber, Permission, Space, Ticks};
 use std::marker::Model;
 
 /// A packet, as the event tells it that sent it (RFC 9002, A.1).
@@ -53,6 +55,21 @@ impl Model for Packet {
       in_flight = p.in_flight;
       permission = p.permission;
     } };
+}
+
+impl Packet {
+    /// When it was sent, by which recovery is told: its time, or its place where the header says
+    /// that the order of the lines decides (RFC 9002, section 7.3.2, B.5).
+    pub(crate) fn mark(&self, header: &Header) -> Ticks
+        requires { self.now.place ≤ max_time }
+        ensures { result ≡ sent_mark header.now self.now }
+    {
+        if header.options().recovery_by_order {
+            Ticks::of(self.place as u64)
+        } else {
+            self.time
+        }
+    }
 }
 
 /// The packet that the event sent, where `place` events stand before it; None of an event that

@@ -14,8 +14,7 @@ ghost use Rattle.qa_reference.specs.Words as words;
 ghost use Rattle.qa_base.specs.machine.Widths.{Fits};
 ghost use Rattle.qa_base.specs.values.Settings.{Settings};
 
-use crate::estimates::{losses_after, refreshed_where_asked};
-use crate::sampling::start;
+use crate::estimates::{Estimates, losses_after};
 use crate::settled::acknowledges_new;
 use crate::timer::is_discard;
 use crate::window::{congestion_of, reno_after};
@@ -201,21 +200,22 @@ pub fn recovery_spent(header: &Header, events: &[Event]) -> Option<u64>
     requires fit { All Fits events.now }
     ensures { result ≡ leaves.recovery_spent header.now (history_of events.now) }
 {
-    let mut rtt = start(header);
+    let mut estimates = Estimates::start(header);
     let mut reno = Reno::start(header.initial_window());
     let mut earlier = reno;
     let mut spent: Option<u64> = None;
     for (place, event) in events.iter().enumerate() {
         let before = &events[..place];
         let after = &events[..place + 1];
-        let losses = losses_after(header, before, event, after, rtt);
+        let own = estimates.with_sample(header, before, event);
+        let losses = losses_after(header, before, event, after, own.sampled);
         let congestion = congestion_of(header, after, losses);
         let detected = before_detection(event, reno, earlier);
         let entered = enters(detected, congestion.last_sent);
         spent = spent_after(spent, entered, recovery_mark(event), place);
         earlier = reno;
         reno = reno_after(header, before, event, congestion, reno);
-        rtt = refreshed_where_asked(header, after, losses);
+        estimates = own.after_congestion(header, after, losses);
     }
     spent
 }

@@ -7,9 +7,11 @@ ghost use Rattle.qa_base.specs.machine.Numbers as tests;
 ghost use Rattle.qa_base.specs.machine.Packets as packets;
 ghost use Rattle.qa_base.specs.machine.Packets.{history_of};
 ghost use Rattle.qa_base.specs.machine.Timer as timers;
+ghost use Rattle.qa_reference.specs.Estimated.{IsTimerLook};
 ghost use Rattle.qa_reference.specs.Looks.{IsLook};
 
-use crate::estimates::sampled;
+use crate::deadlines::TimerLook;
+use crate::estimates::{estimates_of, sampled};
 use crate::losses::{Look, look_at};
 use crate::packet::Packet;
 use crate::timer::pto_count;
@@ -21,6 +23,17 @@ fn look(header: &Header, events: &[Event]) -> Look
     ensures { IsLook header.now (history_of events.now) result }
 {
     look_at(header, events, sampled(header, events))
+}
+
+/// What is found out of the events once, before it is asked what the timer is set for.
+fn timer_look(header: &Header, events: &[Event]) -> TimerLook
+    ensures { IsTimerLook header.now (history_of events.now) result }
+{
+    let estimates = estimates_of(header, events);
+    TimerLook {
+        look: look_at(header, events, estimates.sampled),
+        rtt: estimates.rtt,
+    }
 }
 
 /// Whether the last event found the packet lost, so that the next has to declare it: an
@@ -86,7 +99,7 @@ pub fn deadline(header: &Header, events: &[Event]) -> Option<Due>
     deadlines::deadline(
         header,
         events,
-        look(header, events),
+        &timer_look(header, events),
         pto_count(header, events),
     )
 }
@@ -102,7 +115,7 @@ pub fn packet_deadline(header: &Header, events: &[Event]) -> Option<Due>
     deadlines::packet_deadline(
         header,
         events,
-        look(header, events),
+        &timer_look(header, events),
         pto_count(header, events),
     )
 }

@@ -12,9 +12,8 @@ ghost use Rattle.qa_base.specs.machine.Window as windows;
 ghost use Rattle.qa_base.proofs.machine.Collapses.{IsAtMost};
 
 use crate::congestion::is_persistent;
-use crate::estimates::{losses_after, refreshed_where_asked};
+use crate::estimates::{Estimates, losses_after};
 use crate::packet::{Packet, packet_of};
-use crate::sampling::start;
 use crate::settled::is_newly_acknowledged;
 use qa_base::{Controller, Event, Header};
 use qa_recovery::Reno;
@@ -171,15 +170,16 @@ pub fn acknowledged_since_collapse(header: &Header, events: &[Event]) -> Option<
     requires fit { All Fits events.now }
     ensures { result ≡ windows.acknowledged_since_collapse header.now (history_of events.now) }
 {
-    let mut rtt = start(header);
+    let mut estimates = Estimates::start(header);
     let mut sum: Option<u64> = None;
     for (place, event) in events.iter().enumerate() {
         let before = &events[..place];
         let after = &events[..place + 1];
-        let losses = losses_after(header, before, event, after, rtt);
+        let own = estimates.with_sample(header, before, event);
+        let losses = losses_after(header, before, event, after, own.sampled);
         let persistent = is_persistent(header, after, losses);
         sum = since_collapse_after(header, before, event, persistent, sum);
-        rtt = refreshed_where_asked(header, after, losses);
+        estimates = own.after_congestion(header, after, losses);
     }
     sum
 }

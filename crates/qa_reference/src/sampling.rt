@@ -119,14 +119,15 @@ pub fn sample_of(header: &Header, before: &[Event], event: &Event) -> Option<Sam
 }
 
 /// The estimate with the sample that there may be.
-pub fn updated(rtt: Rtt, sample: Option<Sample>) -> Rtt
-    ensures { result ≡ estimates.updated rtt sample }
+pub fn updated(header: &Header, rtt: Rtt, sample: Option<Sample>) -> Rtt
+    ensures { result ≡ estimates.updated header.now.options.latest_rtt_less_delay rtt sample }
 {
     match sample {
         None => rtt,
         Some(sample) => {
             let mut more = rtt;
-            more.sample(sample.latest_rtt, sample.ack_delay, sample.time);
+            let less_delay = header.options().latest_rtt_less_delay;
+            more.sample(less_delay, sample.latest_rtt, sample.ack_delay, sample.time);
             more
         }
     }

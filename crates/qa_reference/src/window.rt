@@ -4,7 +4,7 @@ ghost use Rattle.std.specs.Prelude.{unwrap_or, max, fold, length};
 ghost use Rattle.std.specs.List.{All};
 ghost use Rattle.qa_base.specs.machine.Loss as loss;
 ghost use Rattle.qa_base.specs.machine.Packets.{history_of, newly_acknowledged};
-ghost use Rattle.qa_base.specs.machine.Moments.{detection_of, last_time};
+ghost use Rattle.qa_base.specs.machine.Moments.{before_last, detection_of, last_time};
 ghost use Rattle.qa_base.specs.machine.Reno as steps;
 ghost use Rattle.qa_reference.specs.Looks.{AreSeen};
 ghost use Rattle.qa_base.specs.machine.Widths.{Fits};
@@ -15,9 +15,8 @@ ghost use Rattle.qa_reference.specs.Words.{IsCongestion, last_sending, hits_at};
 
 use crate::congestion::is_persistent;
 use crate::declared::{Losses, lost_of};
-use crate::estimates::{losses_after, refreshed_where_asked};
+use crate::estimates::{Estimates, losses_after};
 use crate::packet::packet_of;
-use crate::sampling::start;
 use crate::settled::is_newly_acknowledged;
 use qa_base::{Event, Header, Ticks};
 use qa_recovery::Reno;
@@ -32,15 +31,18 @@ fn later(last: Option<Ticks>, time: Ticks) -> Ticks
     }
 }
 
-/// When the last of the packets was sent that are lost by the last event.
+/// When the last of the packets was sent that are lost by the last event, by which recovery is
+/// told.
 fn last_lost(header: &Header, events: &[Event], losses: Losses) -> Option<Ticks>
     requires seen { AreSeen header.now (history_of events.now) losses }
-    ensures { result ≡ last_sending (loss.declared header.now (history_of events.now)) }
+    requires few { length events.now < 2 ^ 32 }
+    ensures { result
+        ≡ last_sending header.now (loss.declared header.now (history_of events.now)) }
 {
     let mut last = None;
     for (place, event) in events.iter().enumerate() {
         if let Some(packet) = lost_of(events, losses, place, event) {
-            last = Some(later(last, packet.time));
+            last = Some(later(last, packet.mark(header)));
         }
     }
     last
@@ -49,8 +51,8 @@ fn last_lost(header: &Header, events: &[Event], losses: Losses) -> Option<Ticks>
 /// What the packets that are lost by one event say of congestion.
 #[derive(Clone, Copy)]
 pub struct Congestion {
-    /// When the last of them was sent, which may begin a recovery period (RFC 9002, section 7.3.2);
-    /// None where no packet is lost.
+    /// When the last of them was sent, by which recovery is told: it may begin a recovery period
+    /// (RFC 9002, section 7.3.2). None where no packet is lost.
     pub last_sent: Option<Ticks>,
     /// Whether they establish persistent congestion (section 7.6).
     pub is_persistent: bool,
@@ -59,6 +61,7 @@ pub struct Congestion {
 /// What the packets say of congestion that are lost by the last event.
 pub fn congestion_of(header: &Header, events: &[Event], losses: Losses) -> Congestion
     requires seen { AreSeen header.now (history_of events.now) losses }
+    requires few { length events.now < 2 ^ 32 }
     ensures { IsCongestion header.now (history_of events.now) result }
 {
     Congestion {
@@ -122,14 +125,14 @@ fn grown(header: &Header, before: &[Event], event: &Event, reno: Reno) -> Reno
     requires fit { All Fits before.now }
     ensures value { result
         ≡ fold (steps.moved header.now.max_datagram_size) reno
-        (steps.grows (newly_acknowledged (event.now ∷ history_of before.now))) }
+        (steps.grows header.now (newly_acknowledged (event.now ∷ history_of before.now))) }
     ensures low { minimum_window header.now.max_datagram_size ≤ result.window }
 {
     let mut reno = reno;
     for (place, earlier) in before.iter().enumerate() {
         if let Some(packet) = packet_of(place, earlier) {
             if is_newly_acknowledged(before, event, packet) && packet.in_flight {
-                reno = grow_by(header, reno, packet.size, packet.time);
+                reno = grow_by(header, reno, packet.size, packet.mark(header));
             }
         }
     }
@@ -145,7 +148,7 @@ fn grown_unless_app_limited(header: &Header, before: &[Event], event: &Event, re
     ensures low { minimum_window header.now.max_datagram_size ≤ result.window }
     ensures value { result
         ≡ fold (steps.moved header.now.max_datagram_size) reno
-        (if steps.is_app_limited event.now then [] else steps.grows
+        (if steps.is_app_limited event.now then [] else steps.grows header.now
         (newly_acknowledged (event.now ∷ history_of before.now))) }
 {
     if event.is_app_limited() {
@@ -169,6 +172,35 @@ fn detected_at(before: &[Event], event: &Event) -> Ticks
     }
 }
 
+/// How many events came before that detection.
+fn detected_place(before: &[Event], event: &Event) -> u64
+    ensures value { result
+        ≡ length (before_last (detection_of (event.now ∷ history_of before.now))) }
+    ensures bound { result ≤ length before.now }
+{
+    match event {
+        Event::Lost { .. } => match before.split_last() {
+            None => 0,
+            Some((_, earlier)) => earlier.len() as u64,
+        },
+        _ => before.len() as u64,
+    }
+}
+
+/// When that detection was made, by which recovery is told: its time, or its place where the header
+/// says that the order of the lines decides (RFC 9002, section 7.3.2).
+fn detection_mark(header: &Header, before: &[Event], event: &Event) -> Ticks
+    requires few { length before.now < 2 ^ 32 }
+    ensures { result
+        ≡ steps.event_mark header.now (detection_of (event.now ∷ history_of before.now)) }
+{
+    if header.options().recovery_by_order {
+        Ticks::of(detected_place(before, event))
+    } else {
+        detected_at(before, event)
+    }
+}
+
 /// The window after one more event: its losses count first, then its growth.
 #[tactic(auto, using(crate::proofs::Moved::reno_moved))]
 pub fn reno_after(
@@ -185,7 +217,7 @@ pub fn reno_after(
     requires fit { All Fits before.now }
     ensures { result ≡ steps.reno header.now (event.now ∷ history_of before.now) }
 {
-    let now = detected_at(before, event);
+    let now = detection_mark(header, before, event);
     let on_congestion_event = hit_by(header, reno, congestion.last_sent, now);
     let collapsed = collapsed(header, on_congestion_event, congestion.is_persistent);
     grown_unless_app_limited(header, before, event, collapsed)
@@ -201,15 +233,16 @@ pub fn reno(header: &Header, events: &[Event]) -> Reno
     requires fit { All Fits events.now }
     ensures { result ≡ steps.reno header.now (history_of events.now) }
 {
-    let mut rtt = start(header);
+    let mut estimates = Estimates::start(header);
     let mut reno = Reno::start(header.initial_window());
     for (place, event) in events.iter().enumerate() {
         let before = &events[..place];
         let after = &events[..place + 1];
-        let losses = losses_after(header, before, event, after, rtt);
+        let own = estimates.with_sample(header, before, event);
+        let losses = losses_after(header, before, event, after, own.sampled);
         let congestion = congestion_of(header, after, losses);
         reno = reno_after(header, before, event, congestion, reno);
-        rtt = refreshed_where_asked(header, after, losses);
+        estimates = own.after_congestion(header, after, losses);
     }
     reno
 }

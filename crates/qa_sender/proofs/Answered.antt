@@ -1,5 +1,5 @@
 -- The answers about the packets and the connection that are kept are those about the history.
-use Rattle.std.proofs.Common.{◌≡◌, ◌∙◌, ℕ, List, Option, refl, sym, ap, find, sum_by, count_by}
+use Rattle.std.proofs.Common.{◌≡◌, ◌∙◌, ℕ, List, Bool, true, Option, refl, sym, ap, find, sum_by, count_by}
 use Rattle.std.specs.List.{list_any}
 use Rattle.qa_base.specs.declared.event.Event.{Event}
 use Rattle.qa_base.specs.declared.space.Space.{Space}
@@ -9,9 +9,13 @@ use Rattle.qa_base.specs.machine.Packets.{largest_acknowledged}
 use Rattle.qa_base.specs.machine.Violations.{IsToleratedRun}
 use Rattle.qa_base.specs.machine.State.{totals}
 use Rattle.qa_base.specs.machine.Window.{ssthresh, ssthresh_by, window, window_by}
-use Rattle.qa_base.specs.values.Settings.{Settings, granularity}
+use Rattle.qa_base.specs.values.Settings.{Settings}
 use Rattle.qa_sender.specs.connection.Deadlines.{AreOpen, IsOpenIn, loss_due}
-use Rattle.qa_sender.specs.connection.Known.{HasParts}
+use Rattle.qa_sender.specs.connection.Known.{HasParts, IsOf, IsProperToleratedRun}
+use Rattle.qa_sender.specs.connection.Deadlines as deadlines
+use Rattle.qa_sender.proofs.connection_lemmas.Due.{by_app, packet_deadline_is}
+use Rattle.qa_base.specs.machine.Timer.{packet_deadline}
+use Rattle.qa_sent_packets.specs.declared.packet.SentPacket.{SentPacket}
 use Rattle.qa_sender.specs.declared.connection.connection.Connection.{Connection}
 use Rattle.qa_sender.specs.declared.connection.deadline.OpenInSpace.{OpenInSpace}
 use Rattle.qa_sender.specs.declared.connection.timer.TimerState.{TimerState}
@@ -33,7 +37,7 @@ pub open_in_is : (told : OpenInSpace) (c : Settings) (h : List Event) (s : Space
     → IsToleratedRun c h → StandsFor held c h → IsOpenIn told c h s
 open_in_is told c h s held awaits oldest run stands = record {
   awaits = awaits ∙ sym (awaiting_are_held c h s held stands);
-  oldest = ap (loss_due (granularity c) (rtt c h) (largest_acknowledged h s) s) oldest ∙ sym (loss_due_is_held c h run s held stands);
+  oldest = ap (loss_due c (rtt c h) (largest_acknowledged h s) s) oldest ∙ sym (loss_due_is_held c h run s held stands);
 }
 
 each_open : (told : PerSpace OpenInSpace) (c : Settings) (h : List Event) → IsOpenIn told.initial c h Initial → IsOpenIn told.handshake c h Handshake → IsOpenIn told.app c h App
@@ -45,6 +49,25 @@ each_open told c h initial handshake app App = app
 -- and of all of them
 pub are_open : (told : PerSpace OpenInSpace) (c : Settings) (h : List Event) → IsOpenIn told.initial c h Initial → IsOpenIn told.handshake c h Handshake → IsOpenIn told.app c h App → AreOpen told c h
 are_open told c h initial handshake app = record { each = each_open told c h initial handshake app }
+
+-- ---- what it is set for by application data alone
+
+abbrev opened : Space → List SentPacket → OpenInSpace
+opened s ps = record { awaits = list_any (is_awaiting s) ps; oldest = find (is_flying s) ps }
+
+abbrev all_opened : List SentPacket → PerSpace OpenInSpace
+all_opened ps = record { initial = opened Initial ps; handshake = opened Handshake ps; app = opened App ps }
+
+-- where the other spaces are idle, by its packets
+pub by_app_held : (k : Connection) (c : Settings) (h : List Event) (held : Held) → IsOf k c h → IsProperToleratedRun c h → StandsFor held c h
+    → deadlines.is_idle (opened Initial held.packets) ≡ true → deadlines.is_idle (opened Handshake held.packets) ≡ true
+    → (awaits : Bool) (oldest : Option SentPacket) → awaits ≡ list_any (is_awaiting App) held.packets → oldest ≡ find (is_flying App) held.packets
+    → deadlines.app_deadline k (record { awaits = awaits; oldest = oldest }) ≡ packet_deadline c h
+by_app_held k c h held of run stands initial handshake awaits oldest is_awaits is_oldest =
+    let told = all_opened held.packets in
+    let open_packets = are_open told c h (open_in_is told.initial c h Initial held refl refl run.run stands) (open_in_is told.handshake c h Handshake held refl refl run.run stands)
+    (open_in_is told.app c h App held refl refl run.run stands) in
+    rw (is_awaits, is_oldest) (by_app k told initial handshake ∙ packet_deadline_is k told c h of run open_packets)
 
 -- ---- the window
 

@@ -1,5 +1,5 @@
 -- What each kind of event makes of the packets that are held, so that they stand for the history with that event.
-use Rattle.std.proofs.Common.{◌≡◌, ◌∙◌, ℕ, List, [], ◌∷◌, ◌++◌, length, map, map-id, Bool, true, false, ◌||◌, Option, Some, None, refl, sym, ap, subst, arith, filter, reverse}
+use Rattle.std.proofs.Common.{◌≡◌, ◌∙◌, ℕ, List, [], ◌∷◌, ◌++◌, length, map, map-id, Bool, true, false, ◌||◌, Option, Some, None, refl, sym, ap, ap₂, subst, arith, filter, reverse}
 use Rattle.std.proofs.lemmas.Bool.{lt-ltb}
 use Rattle.std.proofs.lemmas.List.{map_push}
 use Rattle.std.specs.List.{AllByRecursion}
@@ -68,18 +68,18 @@ fresh_by : (cov los own gone : Bool) → cov ≡ false → los ≡ false → own
 fresh_by cov los own gone not_covered not_lost not_owed there = rw (not_covered, not_lost, not_owed, there) refl
 
 -- in a tolerated run the packet that is sent stands behind all that are held
-pub stands_sent : (c : Settings) (h : List Event) (packet : SentPacket) (permission : Permission) → packet.fate ≡ Open
+pub stands_sent : (c : Settings) (h : List Event) (packet : SentPacket) (permission : Permission) → packet.fate ≡ Open → packet.place ≡ length h
     → IsToleratedRun c (Sent (as_sent packet permission) ∷ h)
     → (old new : Held) → StandsFor old c h → new ≡ record { dropped = old.dropped; packets = old.packets ++ packet ∷ [] }
     → StandsFor new c (Sent (as_sent packet permission) ∷ h)
-stands_sent c h packet permission opened run old new stands is =
+stands_sent c h packet permission opened placed run old new stands is =
     let e = Sent (as_sent packet permission) in
     let holds = form_holds c h e run.1 in
     let p = packet_after h packet permission in
     let not_covered : covers (e ∷ h) p ≡ false = not_followed (acknowledges packet.space packet.number) h p (omega arith) in
     let not_lost : is_declared_lost (e ∷ h) p ≡ false = not_followed (declares_lost packet.space packet.number) h p (omega arith) in
     let fresh : fate c (e ∷ h) p ≡ Open = fresh_by (covers (e ∷ h) p) (is_declared_lost (e ∷ h) p) (owes c (e ∷ h) p) (is_discarded (e ∷ h) p.space) not_covered not_lost refl holds.space_gone in
-    let here : packet ≡ sent_of c (e ∷ h) p = ap (λ f. with_fate f packet) (opened ∙ sym fresh) in
+    let here : packet ≡ sent_of c (e ∷ h) p = ap₂ (λ f n. record (with_fate f packet) { place = n }) (opened ∙ sym fresh) placed in
     let same : map (sent_of c h) stands.kept ≡ map (sent_of c (e ∷ h)) stands.kept =
     map_same (sent_of c h) (sent_of c (e ∷ h)) stands.kept (each_kept (λ q. sent_of c h q ≡ sent_of c (e ∷ h) q) old c h stands
     (λ q has. same_told c e h run q has refl (none_owes c h holds.loss_owed q has) refl refl refl)) in
@@ -96,17 +96,17 @@ stands_sent c h packet permission opened run old new stands is =
     }
 
 -- in a tolerated run it was sent after all that are held, and its number is higher than theirs of its space
-pub sent_last : (c : Settings) (h : List Event) (packet : SentPacket) (permission : Permission)
+pub sent_last : (c : Settings) (h : List Event) (packet : SentPacket) (permission : Permission) → packet.place ≡ length h
     → IsToleratedRun c (Sent (as_sent packet permission) ∷ h)
     → (held : Held) → StandsFor held c h → AllByRecursion (λ q. IsBefore packet q) held.packets
-sent_last c h packet permission run held stands =
+sent_last c h packet permission placed run held stands =
     let e = Sent (as_sent packet permission) in
     let p = packet_after h packet permission in
     let order : AllByRecursion (WasSentBefore p) (packets h) = (in_order c (e ∷ h) run).0 in
     subst (λ (ps : List SentPacket). AllByRecursion (λ q. IsBefore packet q) ps) (sym stands.packets_are)
     (each_of_map (λ q. IsBefore packet q) (sent_of c h) stands.kept
     (each_kept (λ q. IsBefore packet (sent_of c h q)) held c h stands (λ q has.
-    let before = at_one (WasSentBefore p) (packets h) q order has in record { time = before.time; number = before.number })))
+    let before = at_one (WasSentBefore p) (packets h) q order has in record { place = rw placed before.place; time = before.time; number = before.number })))
 
 -- ---- an acknowledgment
 

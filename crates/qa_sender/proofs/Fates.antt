@@ -1,33 +1,35 @@
 -- What became of one packet: what is asked of its fate is what the definitions say, and what one more event makes of it.
 use Rattle.std.proofs.Common.{◌≡◌, ◌∙◌, ℕ, List, [], ◌∷◌, Bool, true, false, ◌&&◌, ◌||◌, not, Option, Some, None, refl, sym, ap, subst, Contains}
 use Rattle.std.proofs.lemmas.Bool.{and_parts, or_from, or_right}
-use Rattle.std.specs.Prelude.{if◌then◌else◌}
+use Rattle.std.specs.Prelude.{nat_lt, if◌then◌else◌}
 use Rattle.qa_base.specs.declared.event.Event.{Event}
 use Rattle.qa_base.specs.declared.event.Ack.{Ack as Acknowledgment}
 use Rattle.qa_base.specs.declared.event.Event.TheVariants.{Ack, Lost, Discard}
 use Rattle.qa_base.specs.declared.space.Space.{Space}
 use Rattle.qa_base.specs.declared.space.Space.TheVariants.{Initial, Handshake, App}
-use Rattle.qa_base.specs.machine.Detection.{is_at, is_found, is_past_threshold}
+use Rattle.qa_base.specs.machine.Detection.{is_at, is_far_below, is_found, is_old, is_past_threshold}
 use Rattle.qa_base.specs.machine.Estimates.{sampled}
 use Rattle.qa_base.specs.machine.Loss.{is_free, is_open as opens, is_owed as owes, detection}
-use Rattle.qa_base.specs.machine.Packets.{Packet, packets, is_acknowledged as covers, is_discarded, is_declared_lost, is_newly_acknowledged, is_of, largest_acknowledged}
+use Rattle.qa_base.specs.machine.Packets.{Packet, packets, is_acknowledged as covers, is_discarded, is_declared_lost, is_newly_acknowledged, is_of, is_below_largest, largest_acknowledged}
 use Rattle.qa_base.specs.machine.Rtt.{Estimate}
 use Rattle.qa_base.specs.machine.Violations.{IsToleratedRun}
 use Rattle.qa_base.specs.values.Events.{is_space, is_named, acknowledges, declares_lost, discards}
-use Rattle.qa_base.specs.values.Settings.{Settings}
+use Rattle.qa_base.specs.values.Settings.{Settings, is_may}
 use Rattle.qa_base.proofs.history.Changes.{covered_after, lost_is_taken, found_unsettled, free_is_flying}
 use Rattle.qa_base.proofs.history.ToleratedRuns.{is_space_is, is_space_same}
 use Rattle.qa_base.proofs.history.Detection.{space_of_detection}
 use Rattle.qa_base.proofs.history.Settled.{nameable_space}
 use Rattle.qa_sender.specs.Losing.{told}
-use Rattle.qa_sender.specs.Thresholds.{AreThresholdsAt}
+use Rattle.qa_sender.specs.Thresholds.{AreThresholdsAt, far_end_below}
+use Rattle.qa_sender.proofs.FarEnds.{is_far_packet}
 use Rattle.qa_sent_packets.specs.Fates.{is_acknowledged, is_flying, is_new, is_open, is_owed, is_unacknowledged}
 use Rattle.qa_sent_packets.specs.Free.{is_free_by, taken_by}
-use Rattle.qa_sent_packets.specs.Steps.{Thresholds, covered_by, declared, discarded_in, found_by, is_past_threshold_by, packet_at, with_fate}
+use Rattle.qa_sent_packets.specs.Steps.{Thresholds, covered_by, declared, discarded_in, found_by, is_past_threshold_by, with_fate}
 use Rattle.qa_sent_packets.specs.Told.{fate, fate_by, sent_of}
 use Rattle.qa_sent_packets.specs.declared.fate.Fate.{Fate}
 use Rattle.qa_sent_packets.specs.declared.fate.Fate.TheVariants.{Open, Owed, Acknowledged, Discarded}
 use Rattle.qa_sent_packets.specs.declared.free.FreePackets.{FreePackets}
+use Rattle.qa_sent_packets.specs.declared.packet.SentPacket.{SentPacket}
 
 pub space_turned : (a b : Space) → is_space a b ≡ is_space b a
 space_turned Initial Initial = refl
@@ -255,19 +257,32 @@ found_if true true false false false false p there = refl
 found_if true false false false late false p there = refl
 found_if false flies cov los late gone p there = refl
 
-same_late : (c : Settings) (r : Estimate) (now : ℕ) (largest : Option ℕ) (f : Fate) (p : Packet) → is_past_threshold c r now largest (packet_at (told f p)) ≡ is_past_threshold c r now largest p
-same_late c r now None f p = refl
-same_late c r now (Some n) f p = refl
+late_if : (below must far old : Bool) → (below && ((must && (below && far)) || old)) ≡ (below && ((must && far) || old))
+late_if true must far old = refl
+late_if false must far old = refl
+
+-- below the end are those packets of the space that lie below the largest acknowledged number by the threshold
+late_by : (c : Settings) (r : Estimate) (g : List Event) (s : Space) (now : ℕ) (o : Option ℕ) (p : Packet) → s ≡ p.space
+    → (is_below_largest p.number o && ((not (is_may c.options.loss_by_number) && nat_lt p.number (far_end_below c g s o)) || is_old c r now p)) ≡ is_past_threshold c r g now o p
+late_by c r g s now None p same = refl
+late_by c r g s now (Some largest) p same =
+    ap (λ b. nat_lt p.number largest && ((not (is_may c.options.loss_by_number) && b) || is_old c r now p)) (is_far_packet c g s largest p same)
+    ∙ late_if (nat_lt p.number largest) (not (is_may c.options.loss_by_number)) (is_far_below c g largest p) (is_old c r now p)
+
+-- by what a detection tells it
+abbrev past : Settings → Estimate → ℕ → Option ℕ → ℕ → Packet → Bool
+past c r now o far p = is_below_largest p.number o && ((not (is_may c.options.loss_by_number) && nat_lt p.number far) || is_old c r now p)
 
 -- a detection asks of it whether it is late, as it asks of the packet of the history
-pub late_told : (c : Settings) (g : List Event) (s : Space) (now : ℕ) (l : Thresholds) → AreThresholdsAt c g s now l → (f : Fate) (p : Packet)
-    → is_past_threshold_by l (told f p) ≡ is_past_threshold c (sampled c g) now (largest_acknowledged g s) p
-late_told c g s now l is f p =
-    same_late l.header l.rtt l.now l.largest f p
-    ∙ (ap (λ k. is_past_threshold k l.rtt l.now l.largest p) is.header_is
-    ∙ (ap (λ r. is_past_threshold c r l.now l.largest p) is.rtt_is
-    ∙ (ap (λ n. is_past_threshold c (sampled c g) n l.largest p) is.now_is
-    ∙ ap (λ o. is_past_threshold c (sampled c g) now o p) is.largest_is)))
+pub late_told : (c : Settings) (g : List Event) (s : Space) (now : ℕ) (l : Thresholds) → AreThresholdsAt c g s now l → (f : Fate) (p : Packet) → s ≡ p.space
+    → is_past_threshold_by l (told f p) ≡ is_past_threshold c (sampled c g) g now (largest_acknowledged g s) p
+late_told c g s now l is f p same =
+    ap (λ k. past k l.rtt l.now l.largest l.far_end p) is.header_is
+    ∙ (ap (λ r. past c r l.now l.largest l.far_end p) is.rtt_is
+    ∙ (ap (λ n. past c (sampled c g) n l.largest l.far_end p) is.now_is
+    ∙ (ap (λ o. past c (sampled c g) now o l.far_end p) is.largest_is
+    ∙ (ap (λ n. past c (sampled c g) now (largest_acknowledged g s) n p) is.far_end_is
+    ∙ late_by c (sampled c g) g s now (largest_acknowledged g s) p same))))
 
 free_by : (was los : Bool) → was ≡ false → los ≡ (was || los)
 free_by was los not_was = rw not_was refl
@@ -279,15 +294,20 @@ found_tests : (of flies cov los late gone cov_now los_now own_now : Bool) (p : P
 found_tests of flies cov los late gone cov_now los_now own_now p there covers_is loses_is owes_is =
     rw (owes_is, covers_is, loses_is) (found_if of flies cov los late gone p there)
 
+late_here : (flies late_now late : Bool) (p : SentPacket) → (flies ≡ true → late_now ≡ late) → (if flies && late_now then with_fate Owed p else p) ≡ (if flies && late then with_fate Owed p else p)
+late_here true late_now late p same = let is = same refl in rw is refl
+late_here false late_now late p same = refl
+
 -- in a tolerated run a detection finds it lost, where it is of the space, open, in flight and late
 pub found_told : (c : Settings) (e : Event) (h : List Event) → IsToleratedRun c (e ∷ h) → (s : Space) (now : ℕ) → detection c (e ∷ h) ≡ Some (s, now) → discards s e ≡ false
     → (l : Thresholds) → AreThresholdsAt c (e ∷ h) s now l → (p : Packet) → Contains (packets h) p → owes c h p ≡ false → discards p.space e ≡ false → declares_lost p.space p.number e ≡ false
     → found_by s l (told (between c e h p) p) ≡ sent_of c (e ∷ h) p
 found_told c e h run s now at none l thresholds p has not_was no_disc unnamed =
     let g = e ∷ h in
-    let late = is_past_threshold c (sampled c g) now (largest_acknowledged g s) p in
+    let late = is_past_threshold c (sampled c g) g now (largest_acknowledged g s) p in
     let gone_is : is_discarded g p.space ≡ is_discarded h p.space = ap (λ b. b || is_discarded h p.space) no_disc in
-    ap (λ b. if is_flying s (told (between c e h p) p) && b then with_fate Owed (told (between c e h p) p) else told (between c e h p) p) (late_told c g s now l thresholds (between c e h p) p)
+    late_here (is_flying s (told (between c e h p) p)) (is_past_threshold_by l (told (between c e h p) p)) late (told (between c e h p) p)
+    (λ flies. late_told c g s now l thresholds (between c e h p) p (is_space_is s p.space (and_parts (is_of s p) (p.in_flight && is_open (between c e h p)) flies).0))
     ∙ (found_tests (is_of s p) p.in_flight (acknowledges p.space p.number e || covers h p) (is_declared_lost h p) late (is_discarded h p.space) (covers g p) (is_declared_lost g p) (owes c g p) p
     (λ same. there_of h s p.space (space_of_detection c e h run s now at) (space_turned p.space s ∙ same))
     (covered_after e h p has)

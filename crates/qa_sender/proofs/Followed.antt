@@ -53,10 +53,11 @@ next_proper old failed state view e allowed timely fit few c h after =
 
 pub next_is : (old : Machine) (failed : Bool) (state : State) → shown old failed ≡ state → IsSound (shown old failed) → (e : Event)
     → ((c : Settings) (h : List Event) → IsAfter state c h → first_untolerated c h e ≡ None) → IsTimely e → Fits e → state.connection.events < 4294967295
-    → IsNext old.packets e
+    → IsNext old.connection.events old.packets e
 next_is old failed state view sound e allowed timely fit few = record {
   header = sound.header;
   history = sound.history;
+  counted = sound.after.connection.events;
   run = next_proper old failed state view e allowed timely fit few sound.header sound.history sound.after;
   stands = sound.after.packets;
 }

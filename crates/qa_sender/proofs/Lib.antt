@@ -1,3 +1,4 @@
+pub mod FarEnds
 pub mod Fates
 pub mod Carrying
 pub mod Events

@@ -14,7 +14,7 @@ use Rattle.qa_base.specs.machine.Detection.{all_at, is_after, is_at, is_end as e
 use Rattle.qa_base.specs.machine.Estimates.{sampled}
 use Rattle.qa_base.specs.machine.Loss.{declared, detection, is_free, is_nameable, is_owed as owes, is_persistent, owed}
 use Rattle.qa_base.specs.machine.Packets.{Packet, packets, is_acknowledged as covers, is_of, is_some_packet}
-use Rattle.qa_base.specs.machine.Reno.{latest_sent}
+use Rattle.qa_base.specs.machine.Reno.{latest_sent, sent_mark}
 use Rattle.qa_base.specs.machine.Rtt.{persistent_after}
 use Rattle.qa_base.specs.machine.Violations.{IsToleratedRun}
 use Rattle.qa_base.specs.values.Events.{declares_lost, is_named, is_space}
@@ -29,7 +29,6 @@ use Rattle.qa_base.proofs.history.Pairs.{each_weaker, none_left, of_each, part_o
 use Rattle.qa_base.proofs.history.Settled.{nameable_space}
 use Rattle.qa_base.specs.history.Among.{counts_as_end, finds_apart}
 use Rattle.qa_base.specs.history.Declared.{is_lost_now, is_named_free}
-use Rattle.qa_base.specs.history.Latest.{time_of_first}
 use Rattle.qa_base.specs.history.Sequence.{EachTwo, WasSentBefore}
 use Rattle.qa_sender.proofs.Carrying.{dropped_free}
 use Rattle.qa_sender.proofs.Events.{some_by_length}
@@ -42,7 +41,7 @@ use Rattle.qa_sent_packets.specs.Free.{is_free_by, taken_by}
 use Rattle.qa_sent_packets.specs.Held.{Held}
 use Rattle.qa_sent_packets.specs.Steps.{with_fate}
 use Rattle.qa_sent_packets.specs.Told.{fate, sent_of}
-use Rattle.qa_sent_packets.specs.Walks.{are_apart, earliest, is_end, is_far_from, last_owed, owed_numbers, owed_of}
+use Rattle.qa_sent_packets.specs.Walks.{are_apart, earliest, is_end, is_far_from, last_owed, mark_of, owed_numbers, owed_of}
 use Rattle.qa_sent_packets.specs.declared.fate.Fate.{Fate}
 use Rattle.qa_sent_packets.specs.declared.fate.Fate.TheVariants.{Open, Owed}
 use Rattle.qa_sent_packets.specs.declared.free.FreePackets.{FreePackets}
@@ -105,53 +104,67 @@ lost_stand c h held holds =
 
 -- ---- when the last of them was sent
 
--- the time of the last, or this one
-abbrev last_of : Option ℕ → List SentPacket → Option ℕ
-last_of at [] = at
-last_of at (p ∷ ps) = last_of (Some p.time) ps
+-- the mark of the last, or this one
+abbrev last_of : Bool → Option ℕ → List SentPacket → Option ℕ
+last_of o at [] = at
+last_of o at (p ∷ ps) = last_of o (Some (mark_of o p)) ps
 
-last_if : (p : SentPacket) (ps : List SentPacket) (at : Option ℕ) (b : Bool) → last_of (if b then Some p.time else at) ps ≡ last_of at (if b then p ∷ ps else ps)
-last_if p ps at true = refl
-last_if p ps at false = refl
+last_if : (o : Bool) (p : SentPacket) (ps : List SentPacket) (at : Option ℕ) (b : Bool) → last_of o (if b then Some (mark_of o p) else at) ps ≡ last_of o at (if b then p ∷ ps else ps)
+last_if o p ps at true = refl
+last_if o p ps at false = refl
 
-last_is : (at : Option ℕ) (ps : List SentPacket) → last_owed at ps ≡ last_of at (owed_of ps)
-last_is at [] = refl
-last_is at (p ∷ ps) = last_is (if is_owed p.fate then Some p.time else at) ps ∙ last_if p (owed_of ps) at (is_owed p.fate)
+last_is : (o : Bool) (at : Option ℕ) (ps : List SentPacket) → last_owed o at ps ≡ last_of o at (owed_of ps)
+last_is o at [] = refl
+last_is o at (p ∷ ps) = last_is o (if is_owed p.fate then Some (mark_of o p) else at) ps ∙ last_if o p (owed_of ps) at (is_owed p.fate)
 
-last_pushed : (at : Option ℕ) (ps : List SentPacket) (p : SentPacket) → last_of at (ps ++ p ∷ []) ≡ Some p.time
-last_pushed at [] p = refl
-last_pushed at (q ∷ ps) p = last_pushed (Some q.time) ps p
+last_pushed : (o : Bool) (at : Option ℕ) (ps : List SentPacket) (p : SentPacket) → last_of o at (ps ++ p ∷ []) ≡ Some (mark_of o p)
+last_pushed o at [] p = refl
+last_pushed o at (q ∷ ps) p = last_pushed o (Some (mark_of o q)) ps p
 
-last_turned : (fates : Packet → Fate) (ps : List Packet) → latest_sent ps ≡ time_of_first ps → last_of None (map (λ p. told (fates p) p) (reverse ps)) ≡ last_sent ps
-last_turned fates [] latest = refl
-last_turned fates (p ∷ ps) latest =
+-- when the first was sent, by which recovery is told
+abbrev mark_of_first : Settings → List Packet → ℕ
+mark_of_first c [] = 0
+mark_of_first c (p ∷ ps) = sent_mark c p
+
+last_turned : (c : Settings) (fates : Packet → Fate) (ps : List Packet) → latest_sent c ps ≡ mark_of_first c ps
+    → last_of c.options.recovery_by_order None (map (λ p. told (fates p) p) (reverse ps)) ≡ last_sent c ps
+last_turned c fates [] latest = refl
+last_turned c fates (p ∷ ps) latest =
+    let o = c.options.recovery_by_order in
     let show : Packet → SentPacket = λ q. told (fates q) q in
-    ap (λ qs. last_of None (map show qs)) (turned p ps)
-    ∙ (ap (last_of None) (map_push show (reverse ps) p)
-    ∙ (last_pushed None (map show (reverse ps)) (show p) ∙ ap Some (sym latest)))
+    ap (λ qs. last_of o None (map show qs)) (turned p ps)
+    ∙ (ap (last_of o None) (map_push show (reverse ps) p)
+    ∙ (last_pushed o None (map show (reverse ps)) (show p) ∙ ap Some (sym latest)))
 
-abbrev IsNoLater : Packet → Packet → Type 0
-IsNoLater p q = q.time ≤ p.time
+abbrev IsNoLater : Settings → Packet → Packet → Type 0
+IsNoLater c p q = sent_mark c q ≤ sent_mark c p
 
-sent_by : (t : ℕ) (ps : List Packet) → AllByRecursion (λ q. q.time ≤ t) ps → latest_sent ps ≤ t
-sent_by t [] all = omega arith
-sent_by t (p ∷ ps) all = let rest = sent_by t ps all.1 in let here = all.0 in omega (arith, rest, here)
+-- what was sent before was sent no later, by times and by places
+no_later_by : (by_order : Bool) (p q : Packet) → WasSentBefore p q → (if by_order then q.place else q.time) ≤ (if by_order then p.place else p.time)
+no_later_by true p q before = let sooner = before.place in omega (arith, sooner)
+no_later_by false p q before = before.time
 
-latest_first : (ps : List Packet) → EachTwo IsNoLater ps → latest_sent ps ≡ time_of_first ps
-latest_first [] two = refl
-latest_first (p ∷ ps) two = let rest = sent_by p.time ps two.0 in omega (arith, rest)
+sent_by : (c : Settings) (t : ℕ) (ps : List Packet) → AllByRecursion (λ q. sent_mark c q ≤ t) ps → latest_sent c ps ≤ t
+sent_by c t [] all = omega arith
+sent_by c t (p ∷ ps) all = let rest = sent_by c t ps all.1 in let here = all.0 in omega (arith, rest, here)
+
+latest_first : (c : Settings) (ps : List Packet) → EachTwo (IsNoLater c) ps → latest_sent c ps ≡ mark_of_first c ps
+latest_first c [] two = refl
+latest_first c (p ∷ ps) two = let rest = sent_by c (sent_mark c p) ps two.0 in omega (arith, rest)
 
 -- in a tolerated run the last that is lost by the last event is the first of them
-latest_lost : (c : Settings) (h : List Event) → IsToleratedRun c h → latest_sent (declared c h) ≡ time_of_first (declared c h)
+latest_lost : (c : Settings) (h : List Event) → IsToleratedRun c h → latest_sent c (declared c h) ≡ mark_of_first c (declared c h)
 latest_lost c h run =
-    let two : EachTwo IsNoLater (filter (is_lost_now c h) (packets h)) =
-    two_of_part IsNoLater (is_lost_now c h) (packets h) (two_weaker WasSentBefore IsNoLater (λ p q before. before.time) (packets h) (in_order c h run)) in
-    subst (λ ps. latest_sent ps ≡ time_of_first ps) (sym (lost_now_part c h)) (latest_first (filter (is_lost_now c h) (packets h)) two)
+    let two : EachTwo (IsNoLater c) (filter (is_lost_now c h) (packets h)) =
+    two_of_part (IsNoLater c) (is_lost_now c h) (packets h) (two_weaker WasSentBefore (IsNoLater c) (no_later_by c.options.recovery_by_order) (packets h) (in_order c h run)) in
+    subst (λ ps. latest_sent c ps ≡ mark_of_first c ps) (sym (lost_now_part c h)) (latest_first c (filter (is_lost_now c h) (packets h)) two)
 
 -- in a tolerated run the last packet that is lost by the last event was sent when the last was that is held as owed
-pub last_owed_is_held : (c : Settings) (h : List Event) → IsToleratedRun c h → (held : Held) → HoldsLosses held c h → last_owed None held.packets ≡ last_sent (declared c h)
+pub last_owed_is_held : (c : Settings) (h : List Event) → IsToleratedRun c h → (held : Held) → HoldsLosses held c h
+    → last_owed c.options.recovery_by_order None held.packets ≡ last_sent c (declared c h)
 last_owed_is_held c h run held holds =
-    last_is None held.packets ∙ (ap (last_of None) (lost_stand c h held holds) ∙ last_turned holds.fates (declared c h) (latest_lost c h run))
+    let o = c.options.recovery_by_order in
+    last_is o None held.packets ∙ (ap (last_of o None) (lost_stand c h held holds) ∙ last_turned c holds.fates (declared c h) (latest_lost c h run))
 
 -- ---- persistent congestion
 

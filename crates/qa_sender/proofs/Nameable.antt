@@ -1,5 +1,5 @@
 -- What is free by what is kept is what is free after the history, and so is what may be named.
-use Rattle.std.proofs.Common.{◌≡◌, ◌∙◌, ℕ, ◌+◌, ◌-◌, List, [], ◌∷◌, ◌++◌, map, min, Bool, true, false, ◌&&◌, ◌||◌, not, Option, Some, None, option_map, refl, sym, ap, ap₂, subst, arith, filter, reverse}
+use Rattle.std.proofs.Common.{◌≡◌, ◌∙◌, ℕ, ◌+◌, List, [], ◌∷◌, ◌++◌, map, Bool, true, false, ◌&&◌, ◌||◌, not, Option, Some, None, option_map, refl, sym, ap, ap₂, subst, arith, filter, reverse}
 use Rattle.std.proofs.lemmas.Bool.{and_parts, and_right, both_ways, false_from_ne_true, or_right}
 use Rattle.std.proofs.lemmas.Bool.Decides.{nat_tests}
 use Rattle.std.proofs.lemmas.List.Elements.{filter-append}
@@ -10,7 +10,7 @@ use Rattle.qa_base.specs.declared.event.Event.TheVariants.{Discard}
 use Rattle.qa_base.specs.declared.space.Space.{Space}
 use Rattle.qa_base.specs.declared.space.Space.TheVariants.{Initial}
 use Rattle.qa_base.specs.machine.Breaches.{numbers}
-use Rattle.qa_base.specs.machine.Detection.{is_at, is_found, is_left, is_old, is_past_threshold, is_unsettled, may_be_spared}
+use Rattle.qa_base.specs.machine.Detection.{is_at, is_far_below, is_found, is_left, is_old, is_past_threshold, is_unsettled, may_be_spared}
 use Rattle.qa_base.specs.machine.Estimates.{sampled}
 use Rattle.qa_base.specs.machine.Loss.{detection, is_free, is_nameable, is_open as opens, is_owed as owes, nameable, owed}
 use Rattle.qa_base.specs.machine.Numbers.{has_all, has_next, has_range, is_in, names_between}
@@ -18,7 +18,6 @@ use Rattle.qa_base.specs.machine.Packets.{Packet, is_discarded, is_of, largest_a
 use Rattle.qa_base.specs.machine.Rtt.{Estimate}
 use Rattle.qa_base.specs.machine.Violations.{IsToleratedRun}
 use Rattle.qa_base.specs.values.Events.{discards, is_named, is_space}
-use Rattle.qa_base.specs.values.PerSpace.{of_space}
 use Rattle.qa_base.specs.values.Settings.{Settings, is_may}
 use Rattle.qa_base.proofs.machine.Declared.{any_of_part}
 use Rattle.qa_sender.proofs.connection_lemmas.Lists.{all_same, all_turned, any_of_map, any_turned, each_value, filter_of_map, map_fused, map_turned}
@@ -26,7 +25,6 @@ use Rattle.qa_sender.specs.connection.Detecting.{detected_in}
 use Rattle.qa_sender.specs.connection.Known.{IsOf}
 use Rattle.qa_sender.specs.declared.connection.connection.Connection.{Connection}
 use Rattle.qa_sender.specs.declared.connection.detection.Detection.{Detection}
-use Rattle.qa_sender.specs.declared.connection.spaces.SpaceState.{SpaceState}
 use Rattle.qa_base.proofs.history.Changes.{free_is_flying}
 use Rattle.qa_base.proofs.history.ToleratedRuns.{is_space_is}
 use Rattle.qa_base.proofs.history.Detection.{space_of_detection}
@@ -34,6 +32,8 @@ use Rattle.qa_base.proofs.history.Pairs.{none_left, part_turned}
 use Rattle.qa_sender.proofs.Carrying.{dropped_closed, dropped_free}
 use Rattle.qa_sender.proofs.Fates.{is_open_told, is_owed_told}
 use Rattle.qa_sender.specs.Freeing.{end_of, free_of, freed}
+use Rattle.qa_sender.specs.Thresholds.{far_end, far_end_below}
+use Rattle.qa_sender.proofs.FarEnds.{is_far_packet}
 use Rattle.qa_sender.specs.Standing.{StandsFor}
 use Rattle.qa_sent_packets.specs.Fates.{is_flying, is_open, is_owed_in}
 use Rattle.qa_sent_packets.specs.Free.{AreOwedIn, is_free_by, is_nameable_by, nameable_numbers}
@@ -44,28 +44,31 @@ use Rattle.qa_sent_packets.specs.declared.packet.SentPacket.{SentPacket}
 
 -- ---- the end of the numbers
 
-low_is : (n m t : ℕ) → nat_lt n (min m (m + 1 - t)) ≡ (nat_lt n m && nat_le t (m - n))
-low_is n m t = grind (arith, nat_tests)
-
 spared_if : (may below far old : Bool) → (below && (may && far) && not old) ≡ ((may && (below && far)) && not (below && ((not may && far) || old)))
 spared_if true true far old = refl
 spared_if true false far old = refl
 spared_if false true far old = refl
 spared_if false false far old = refl
 
-end_if : (n m t : ℕ) (may : Bool) → nat_lt n (if may then min m (m + 1 - t) else 0) ≡ (may && (nat_lt n m && nat_le t (m - n)))
-end_if n m t true = low_is n m t
-end_if n m t false = grind (arith, nat_tests)
+end_if : (n far : ℕ) (may is_far : Bool) → nat_lt n far ≡ is_far → nat_lt n (if may then far else 0) ≡ (may && is_far)
+end_if n far true is_far is = is
+end_if n far false is_far is = grind (arith, nat_tests)
 
 -- what may be spared lies below the end and is past no threshold
-spared_is : (c : Settings) (r : Estimate) (now : ℕ) (largest : Option ℕ) (p : Packet) → may_be_spared c r now largest p ≡ (nat_lt p.number (end_of c largest) && not (is_past_threshold c r now largest p))
-spared_is c r now None p = let none : nat_lt p.number 0 ≡ false = grind (arith, nat_tests) in sym (ap (λ b. b && true) none)
-spared_is c r now (Some m) p =
+spared_is : (c : Settings) (r : Estimate) (h : List Event) (s : Space) (now : ℕ) (largest : Option ℕ) (p : Packet) → s ≡ p.space
+    → may_be_spared c r h now largest p ≡ (nat_lt p.number (end_of c (far_end_below c h s largest)) && not (is_past_threshold c r h now largest p))
+spared_is c r h s now None p same =
+    let may = is_may c.options.loss_by_number in
+    let never : nat_lt p.number 0 ≡ false = grind (arith, nat_tests) in
+    let none : nat_lt p.number (if may then 0 else 0) ≡ false = end_if p.number 0 may false never ∙ and_right may false refl in
+    sym (ap (λ b. b && true) none)
+spared_is c r h s now (Some m) p same =
     let may = is_may c.options.loss_by_number in
     let below = nat_lt p.number m in
-    let far = nat_le c.options.packet_threshold (m - p.number) in
+    let far = is_far_below c h m p in
     let old = is_old c r now p in
-    spared_if may below far old ∙ ap (λ b. b && not (below && ((not may && far) || old))) (sym (end_if p.number m c.options.packet_threshold may))
+    spared_if may below far old
+    ∙ ap (λ b. b && not (below && ((not may && far) || old))) (sym (end_if p.number (far_end_below c h s (Some m)) may (below && far) (is_far_packet c h s m p same)))
 
 -- ---- one packet
 
@@ -91,14 +94,17 @@ gone_of : (c : Settings) (h : List Event) → IsToleratedRun c h → (s : Space)
 gone_of c [] run s now at = cc
 gone_of c (e ∷ h) run s now at = there_if (is_discarded h s) (discards s e) (space_of_detection c e h run s now at) (no_discard c e h s now at)
 
+spared_there : (of flies a b : Bool) → (of ≡ true → a ≡ b) → (of && (flies && a)) ≡ (of && (flies && b))
+spared_there true flies a b same = ap (λ x. flies && x) (same refl)
+spared_there false flies a b same = refl
+
 told_by : (k : Connection) (c : Settings) (h : List Event) (d : Option (Space × ℕ)) → IsToleratedRun c h → IsOf k c h → detection c h ≡ d → (p : Packet)
     → is_free_by (freed k (option_map (detected_in c h) d)) (sent_of c h p) ≡ is_at (is_left c (sampled c h) h) p d
 told_by k c h None run of at p = let none : nat_lt p.number 0 ≡ false = grind (arith, nat_tests) in and_right (is_flying Initial (sent_of c h p)) (nat_lt p.number 0) none
 told_by k c h (Some (s, now)) run of at p =
-    let end = end_of c (largest_acknowledged h s) in
-    let late = is_past_threshold c (sampled c h) now (largest_acknowledged h s) p in
-    let end_is : end_of k.header (of_space s k.spaces).largest ≡ end =
-    ap (λ (x : SpaceState). end_of k.header x.largest) (of.parts.spaces s) ∙ ap (λ (x : Settings). end_of x (largest_acknowledged h s)) of.parts.header in
+    let end = end_of c (far_end c h s) in
+    let late = is_past_threshold c (sampled c h) h now (largest_acknowledged h s) p in
+    let end_is : end_of k.header (far_end c h s) ≡ end = ap (λ (x : Settings). end_of x (far_end c h s)) of.parts.header in
     let owes_is : owes c h p ≡ (is_of s p && is_found c (sampled c h) h now s p) = ap (is_at (is_found c (sampled c h) h) p) at in
     let opened : is_open (fate c h p) ≡ (is_unsettled h p && not (is_of s p && is_found c (sampled c h) h now s p) && not (is_discarded h p.space)) =
     is_open_told c h p ∙ ap (λ b. is_unsettled h p && not b && not (is_discarded h p.space)) owes_is in
@@ -106,7 +112,8 @@ told_by k c h (Some (s, now)) run of at p =
     ∙ (ap (λ b. (is_space s p.space && (p.in_flight && b)) && nat_lt p.number end) opened
     ∙ (left_if (is_of s p) p.in_flight (is_unsettled h p) (is_discarded h p.space) (nat_lt p.number end) late
     (λ same. subst (λ (t : Space). is_discarded h t ≡ false) (is_space_is s p.space same) (gone_of c h run s now at))
-    ∙ ap (λ b. is_of s p && (p.in_flight && is_unsettled h p && b)) (sym (spared_is c (sampled c h) now (largest_acknowledged h s) p))))
+    ∙ spared_there (is_of s p) (p.in_flight && is_unsettled h p) (nat_lt p.number end && not late) (may_be_spared c (sampled c h) h now (largest_acknowledged h s) p)
+    (λ same. sym (spared_is c (sampled c h) h s now (largest_acknowledged h s) p (is_space_is s p.space same)))))
 
 -- in a tolerated run a packet is free by what is kept where it is free after the history
 pub free_told : (k : Connection) (c : Settings) (h : List Event) → IsToleratedRun c h → IsOf k c h → (p : Packet) → is_free_by (free_of k) (sent_of c h p) ≡ is_free c h p

@@ -11,7 +11,7 @@ use Rattle.qa_base.specs.machine.Loss.{bytes_in_flight, is_open as opens}
 use Rattle.qa_base.specs.machine.Packets.{Packet, packets, packets_of, is_of, largest_acknowledged}
 use Rattle.qa_base.specs.machine.Violations.{IsToleratedRun}
 use Rattle.qa_base.specs.machine.Timer.{awaits_acknowledgment, loss_due}
-use Rattle.qa_base.specs.values.Settings.{Settings, granularity}
+use Rattle.qa_base.specs.values.Settings.{Settings}
 use Rattle.qa_sender.specs.connection.Deadlines as deadlines
 use Rattle.qa_base.proofs.history.Closing.{bytes_in_flight_is}
 use Rattle.qa_base.proofs.history.Deadline.{loss_due_by_next}
@@ -74,13 +74,13 @@ awaiting_are_held c h s held stands =
 
 -- ---- the loss time
 
-due_by : (c : Settings) (h : List Event) (s : Space) (o : Option Packet) → due_of c h s o ≡ deadlines.loss_due (granularity c) (rtt c h) (largest_acknowledged h s) s (option_map (sent_of c h) o)
+due_by : (c : Settings) (h : List Event) (s : Space) (o : Option Packet) → due_of c h s o ≡ deadlines.loss_due c (rtt c h) (largest_acknowledged h s) s (option_map (sent_of c h) o)
 due_by c h s None = refl
 due_by c h s (Some p) = refl
 
 -- in a tolerated run the first packet held that is of the space, open and in flight decides its loss time
 pub loss_due_is_held : (c : Settings) (h : List Event) → IsToleratedRun c h → (s : Space) (held : Held) → StandsFor held c h
-    → loss_due c h s ≡ deadlines.loss_due (granularity c) (rtt c h) (largest_acknowledged h s) s (find (is_flying s) held.packets)
+    → loss_due c h s ≡ deadlines.loss_due c (rtt c h) (largest_acknowledged h s) s (find (is_flying s) held.packets)
 loss_due_is_held c h run s held stands =
     let test : Packet → Bool = λ p. is_of s p && flies c h p in
     let none : NoneFlies c h s stands.gone =
@@ -88,7 +88,7 @@ loss_due_is_held c h run s held stands =
     stands.gone (dropped_closed c h stands.gone stands.forgotten) in
     loss_due_by_next c h run s stands.gone stands.kept stands.parts none
     ∙ (due_by c h s (find test stands.kept)
-    ∙ ap (deadlines.loss_due (granularity c) (rtt c h) (largest_acknowledged h s) s)
+    ∙ ap (deadlines.loss_due c (rtt c h) (largest_acknowledged h s) s)
     (sym (ap (find (is_flying s)) stands.packets_are
     ∙ find_of_map (is_flying s) (sent_of c h) test stands.kept
     (each_value (λ p. is_flying s (sent_of c h p) ≡ test p) (λ p. ap (λ b. is_of s p && (p.in_flight && b)) (is_open_told c h p)) stands.kept))))

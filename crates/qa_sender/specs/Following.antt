@@ -1,5 +1,5 @@
 -- Which events come next, and which take memory.
-use Rattle.std.specs.Prelude.{Bool, ◌||◌, true, false, List, ◌∷◌}
+use Rattle.std.specs.Prelude.{◌≡◌, ℕ, Bool, ◌||◌, true, false, List, ◌∷◌, length}
 use Rattle.qa_base.specs.declared.event.Event.{Event}
 use Rattle.qa_base.specs.declared.event.Event.TheVariants.{Ack}
 use Rattle.qa_base.specs.declared.event.SentPacket.{SentPacket as PacketOfEvent}
@@ -11,10 +11,11 @@ use Rattle.qa_sender.specs.Standing.{StandsFor}
 use Rattle.qa_sent_packets.specs.Held.{Held}
 use Rattle.qa_sent_packets.specs.declared.packet.SentPacket.{SentPacket}
 
--- the event comes next in some tolerated run, after whose events the packets are kept
-pub record IsNext (held : Held) (e : Event) : Type 0 where
+-- the event comes next in some tolerated run of so many events, after which the packets are kept
+pub record IsNext (events : ℕ) (held : Held) (e : Event) : Type 0 where
   pub header : Settings
   pub history : List Event
+  pub counted : events ≡ length history
   pub run : IsProperToleratedRun header (e ∷ history)
   pub stands : StandsFor held header history
 

@@ -15,6 +15,7 @@ use Rattle.qa_sent_packets.specs.declared.packet.SentPacket.{SentPacket}
 abbrev pub told : Fate → Packet → SentPacket
 told f p = record {
   time = p.time;
+  place = p.place;
   space = p.space;
   number = p.number;
   size = p.size;

@@ -2,14 +2,16 @@
 ghost use Rattle.std.specs.Prelude.{List, ◌≡◌, ◌&&◌};
 ghost use Rattle.std.specs.List.{list_any};
 ghost use Rattle.qa_base.specs.declared.event.Event.{Event as AnEvent};
+ghost use Rattle.qa_base.specs.machine.Timer as timers;
 ghost use Rattle.qa_base.specs.machine.Violations.{IsToleratedRun};
 ghost use Rattle.qa_base.specs.values.Events.{is_space};
 ghost use Rattle.qa_base.specs.values.Settings.{Settings};
 ghost use Rattle.qa_sender.specs.connection.Deadlines.{AreOpen, IsOpenIn};
+ghost use Rattle.qa_sender.specs.connection.Known.{IsOf, IsProperToleratedRun};
 ghost use Rattle.qa_sender.specs.Standing.{StandsFor};
 ghost use Rattle.qa_sent_packets.specs.Free.{is_free_by};
 
-use crate::connection::OpenInSpace;
+use crate::connection::{Connection, OpenInSpace};
 use crate::freeing::free_packets;
 use crate::running::Running;
 use qa_base::{Due, Header, PacketNumber, PerSpace, Space, Span, Ticks, Totals};
@@ -39,6 +41,43 @@ pub(crate) fn open_packets(packets: &SentPackets) -> PerSpace<OpenInSpace>
         handshake: open_in(packets, Space::Handshake),
         app: open_in(packets, Space::App),
     }
+}
+
+/// What the packets of all spaces set the timer for. It is a call of its own, since none but
+/// application data has packets once the handshake is done.
+#[inline(never)]
+fn due_by_all(connection: &Connection, packets: &SentPackets) -> Option<Due>
+    ensures { (c : Settings) (h : List AnEvent) → IsOf connection.now c h
+        → IsProperToleratedRun c h → StandsFor packets.now c h
+        → result ≡ timers.packet_deadline c h }
+{
+    connection.packet_deadline(&open_packets(packets))
+}
+
+/// What the packets that are open set the timer for. It is a call of its own, so that nothing of it
+/// stands where events are judged under a header with no limit for how late a timer may be. Where
+/// the other spaces are idle, only the packets of application data are asked.
+#[inline(never)]
+pub(crate) fn due_by_packets(connection: &Connection, packets: &SentPackets) -> Option<Due>
+    ensures { (c : Settings) (h : List AnEvent) → IsOf connection.now c h
+        → IsProperToleratedRun c h → StandsFor packets.now c h
+        → result ≡ timers.packet_deadline c h }
+{
+    if packets.is_idle(Space::Initial) && packets.is_idle(Space::Handshake) {
+        let awaits = packets.awaits(Space::App);
+        return connection.app_deadline(awaits, packets.first_flying_ref(Space::App));
+    }
+    due_by_all(connection, packets)
+}
+
+/// What the timer is set for, likewise.
+#[inline(never)]
+pub(crate) fn due_now(connection: &Connection, packets: &SentPackets) -> Option<Due>
+    ensures { (c : Settings) (h : List AnEvent) → IsOf connection.now c h
+        → IsProperToleratedRun c h → StandsFor packets.now c h
+        → result ≡ timers.deadline c h }
+{
+    due_by_packets(connection, packets).or(connection.anti_deadlock())
 }
 
 /// Whether a packet of the space is free.
@@ -119,9 +158,7 @@ impl State for Running {
     }
 
     fn deadline(&self) -> Option<Due> {
-        self.machine
-            .connection
-            .deadline(&open_packets(&self.machine.packets))
+        due_now(&self.machine.connection, &self.machine.packets)
     }
 
     #[tactic(auto, using(qa_base::proofs::machine::Steps::probe_due_is))]
@@ -138,10 +175,7 @@ impl State for Running {
         match self.machine.connection.header.options().timer_late {
             None => false,
             Some(limit) => {
-                let due = self
-                    .machine
-                    .connection
-                    .packet_deadline(&open_packets(&self.machine.packets));
+                let due = due_by_packets(&self.machine.connection, &self.machine.packets);
                 let limit = self.header().unit().of_microseconds(limit);
                 self.machine.watch.is_past_due(due, limit, time)
             }

@@ -1,9 +1,9 @@
 //! What a cause asks of the events before an event, answered by what is kept.
-use crate::answers::open_packets;
+use crate::answers::due_by_packets;
 use crate::freeing::free_packets;
 use crate::running::Running;
 use qa_base::{Due, Event, PacketNumber, Rule, Space, Span, Ticks, TimeUnit};
-use qa_ledger::{Cause, Explains, Facts, Oldest, Owed, State, cause_of, owed_of};
+use qa_ledger::{Cause, Counted, Explains, Facts, Oldest, Owed, State, cause_of, owed_of};
 use std::alloc::AllocError;
 
 impl Facts for Running {
@@ -30,6 +30,23 @@ impl Facts for Running {
 
     fn owed_space(&self) -> Option<Space> {
         self.machine.packets.owed_space()
+    }
+
+    fn counted(&self, space: Space, number: PacketNumber) -> Option<Counted> {
+        let machine = &self.machine;
+        let options = machine.connection.header.options();
+        if !options.threshold_counts.counts_packets() {
+            return None;
+        }
+        match machine.connection.spaces.of(space).largest {
+            None => None,
+            Some(largest) => Some(Counted {
+                number,
+                largest,
+                packets: machine.numbers.count_between(space, number, largest),
+                threshold: options.packet_threshold,
+            }),
+        }
     }
 
     fn greatest_sent(&self, space: Space) -> Option<PacketNumber> {
@@ -59,9 +76,7 @@ impl Facts for Running {
     }
 
     fn packet_deadline(&self) -> Option<Due> {
-        self.machine
-            .connection
-            .packet_deadline(&open_packets(&self.machine.packets))
+        due_by_packets(&self.machine.connection, &self.machine.packets)
     }
 
     fn set_since(&self) -> Ticks {
@@ -95,6 +110,10 @@ impl Explains for Running {
 
     fn packet_deadline(&self) -> Option<Due> {
         Facts::packet_deadline(self)
+    }
+
+    fn anti_deadlock(&self) -> Option<Due> {
+        self.machine.connection.anti_deadlock()
     }
 
     fn acknowledged_since_collapse(&self) -> Option<u64> {

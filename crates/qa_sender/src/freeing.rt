@@ -3,7 +3,7 @@ ghost use Rattle.std.specs.Prelude.{◌≡◌};
 ghost use Rattle.qa_sender.specs.Freeing.{end_of, free_of};
 
 use crate::connection::Connection;
-use qa_base::{Header, PacketNumber, Space};
+use qa_base::{Header, Space};
 use qa_sent_packets::FreePackets;
 
 /// What it may name: where the last event looked for losses, the packets of its space that lie
@@ -19,30 +19,19 @@ pub(crate) fn free_packets(connection: &Connection) -> FreePackets
         },
         Some(detection) => FreePackets {
             space: detection.space,
-            end: end_of_free(
-                &connection.header,
-                connection.spaces.of(detection.space).largest,
-            ),
+            end: end_of_free(&connection.header, detection.far_end),
         },
     }
 }
 
 /// Above the numbers that lie below the largest acknowledged one by the packet threshold; 0 where
 /// such packets must be lost.
-fn end_of_free(header: &Header, largest: Option<PacketNumber>) -> u64
-    ensures { result ≡ end_of header.now largest }
+fn end_of_free(header: &Header, far_end: u64) -> u64
+    ensures { result ≡ end_of header.now far_end }
 {
-    let options = header.options();
-    match largest {
-        None => 0,
-        Some(largest) => {
-            if !options.loss_by_number.is_may() {
-                return 0;
-            }
-            let above = largest.get() + 1;
-            largest
-                .get()
-                .min(above.saturating_sub(options.packet_threshold))
-        }
+    if header.options().loss_by_number.is_may() {
+        far_end
+    } else {
+        0
     }
 }

@@ -7,6 +7,7 @@
 mod answers;
 mod connection;
 mod facts;
+mod far;
 mod freeing;
 mod machine;
 mod running;

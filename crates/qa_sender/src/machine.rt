@@ -1,12 +1,13 @@
 //! What each kind of event does to the state of a sender.
 ghost use Rattle.std.specs.Prelude.{◌≡◌, ◌≤◌, ◌<◌, ◌+◌, [], ◌∷◌, ℕ, List, length, filter, map};
-ghost use Rattle.std.specs.Prelude.{true, false, Some, IfOk, OnOk, OnErr};
+ghost use Rattle.std.specs.Prelude.{true, false, Some, IfOk, OnOk, OnErr, min};
 ghost use Rattle.std.specs.List.{AllByRecursion};
 ghost use Rattle.qa_base.specs.declared.event.Event.{Event as AnEvent};
 ghost use Rattle.qa_base.specs.declared.event.Event.TheVariants as events;
 ghost use Rattle.qa_base.specs.declared.space.TimerKind.TheVariants.{Loss, Pto};
 ghost use Rattle.qa_base.specs.declared.space.Space.{Space as ASpace};
 ghost use Rattle.qa_base.specs.machine.Detection.{looks_at as looks_at_of};
+ghost use Rattle.qa_base.specs.machine.Estimates.{sampled};
 ghost use Rattle.qa_base.specs.machine.Loss as loss;
 ghost use Rattle.qa_base.specs.machine.Violations.{IsToleratedRun};
 ghost use Rattle.qa_base.specs.values.Events.{fits, time_of};
@@ -23,7 +24,7 @@ ghost use Rattle.qa_packet_numbers.specs.Sent.{AreSent};
 ghost use Rattle.qa_sender.specs.Following.{IsNext, as_sent, takes_memory};
 ghost use Rattle.qa_sender.specs.Freeing.{free_of};
 ghost use Rattle.qa_sender.specs.Losing.{HoldsLosses, LosesWhatIsOwed};
-ghost use Rattle.qa_sender.specs.Thresholds.{AreThresholdsAt};
+ghost use Rattle.qa_sender.specs.Thresholds.{AreThresholdsAt, far_end as far_end_of};
 ghost use Rattle.qa_sender.specs.Machine.{Follows, StandsFor as Stands, StandsOnceFound};
 ghost use Rattle.qa_sender.specs.Standing.{StandsFor};
 ghost use Rattle.qa_sender.specs.Trimmed.{IsTrimmed};
@@ -37,10 +38,12 @@ ghost use Rattle.qa_sent_packets.specs.declared.fate.Fate.TheVariants.{Open};
 
 use crate::answers::open_in;
 use crate::connection::{Connection, Detection, Losses};
+use crate::far::far_end;
 use crate::freeing::free_packets;
 use crate::watch::TimerWatch;
 use qa_base::{Ack, Event, Header, MetricValues, Permission, Space, Span, Spans, Ticks, TimerKind};
 use qa_packet_numbers::{Ranges, SentNumbers};
+use qa_recovery::Rtt;
 use qa_sent_packets::{Fate, SentPacket, SentPackets, Thresholds, are_falling};
 use std::alloc::{AllocError, Global};
 
@@ -79,6 +82,7 @@ impl Machine {
         ensures err { OnErr result (self.new ≡ self.old) }
     {
         let time = ack.time;
+        let mark = self.connection.mark(time);
         let space = ack.space;
         let largest = ack.ranges.greatest();
         let ranges = ack.ranges.as_slice();
@@ -91,10 +95,11 @@ impl Machine {
         }
         self.connection
             .sample(&acknowledged, largest, ack.delay, time);
+        let far_end = far_end(&self.connection, &self.numbers, space);
         let detection = self
             .connection
-            .detected(space, time.get(), time, &acknowledged);
-        self.find_losses(space, time.get(), time);
+            .detected(space, time.get(), mark, &acknowledged, far_end);
+        self.find_losses(space, time.get(), far_end, mark);
         self.connection.grow(&acknowledged, ack.app_limited);
         self.packets.take_back(acknowledged);
         self.connection.restart(time);
@@ -114,6 +119,7 @@ impl Machine {
         requires small { packet.size ≤ max_packet_size }
         requires ordered { AllByRecursion (λ q. IsBefore packet q) self.old.packets.packets }
         requires few { self.old.packets.dropped + length self.old.packets.packets < max_lines }
+        requires place { packet.place ≡ min self.old.connection.events max_lines }
         ensures ok { OnOk result
             (Follows self.old self.new (events.Sent (as_sent packet permission))) }
         ensures err { OnErr result (self.new ≡ record self.old { numbers = self.new.numbers }) }
@@ -130,13 +136,15 @@ impl Machine {
         requires { NoneOwed self.old.packets.packets }
         ensures { Follows self.old self.new (events.Timer time Loss space) }
     {
+        let mark = self.connection.mark(time);
         let early = self.connection.header.timer_early();
         let open = open_in(&self.packets, space);
         let due = self.connection.loss_time(space, open.oldest);
         let looked = looks_at(early, time, due);
-        let detection = self.connection.detected(space, looked, time, &[]);
+        let far_end = far_end(&self.connection, &self.numbers, space);
+        let detection = self.connection.detected(space, looked, mark, &[], far_end);
         self.connection.timer.last_set = Some(time);
-        self.find_losses(space, looked, time);
+        self.find_losses(space, looked, far_end, mark);
         self.finish(time, Some(detection));
     }
 
@@ -164,13 +172,14 @@ impl Machine {
     }
 
     /// A Lost line completes the detection of the event before, or not. Where it does, what is lost
-    /// by that is taken in: all that is held as owed now.
+    /// by that is taken in: all that is held as owed now, by the estimate by which it looked.
     fn complete(&mut self, completes: bool)
         ensures connection { (c : Settings) (h : List AnEvent) (d : ADetection)
             → completes ≡ true → self.old.connection.detection ≡ Some d → IsToleratedRun c h
-            → IsMeasured self.old.connection c h → HoldsLosses self.old.packets c h
+            → self.old.connection.header ≡ c → d.rtt ≡ sampled c h
+            → HoldsLosses self.old.packets c h
             → self.new.connection
-            ≡ completed d (last_sent (loss.declared c h))
+            ≡ completed d (last_sent c (loss.declared c h))
             (loss.is_persistent c h) self.old.connection }
         ensures still { completes ≡ false → self.new.connection ≡ self.old.connection }
         ensures packets { self.new.packets ≡ self.old.packets }
@@ -185,7 +194,7 @@ impl Machine {
         let Some(detection) = self.connection.detection else {
             return;
         };
-        let losses = losses(&self.packets, &self.connection);
+        let losses = losses(&self.packets, &self.connection.header, &detection.rtt);
         self.connection.complete(losses, &detection);
     }
 
@@ -227,7 +236,7 @@ impl Machine {
     /// packet that is sent and an acknowledgment can be; numbers that were sent may have changed
     /// then, and nothing else.
     pub(crate) fn on_event(&mut self, alloc: Global, event: &Event) -> Result<(), AllocError>
-        requires next { IsNext self.old.packets event.now }
+        requires next { IsNext self.old.connection.events self.old.packets event.now }
         requires owed { AreOwedIn (free_of self.old.connection).space self.old.packets.packets }
         requires fitting { fits event.now ≡ true }
         ensures ok { OnOk result (Follows self.old self.new event.now) }
@@ -238,6 +247,7 @@ impl Machine {
             Event::Sent(sent) => {
                 let packet = SentPacket {
                     time: sent.time,
+                    place: self.connection.place(),
                     space: sent.space,
                     number: sent.number,
                     size: sent.size,
@@ -287,26 +297,29 @@ impl Machine {
         }
     }
 
-    /// Looks for losses in a space as of a time, and takes in what they mean for the window, now
-    /// (A.10 and B.8). Nothing may be owed before.
-    fn find_losses(&mut self, space: Space, looked: u64, now: Ticks)
+    /// Looks for losses in a space as of a time, and takes in what they mean for the window, by an
+    /// event of this mark (A.10 and B.8). The numbers that lie far below the largest acknowledged
+    /// one are those below `far_end`. Nothing may be owed before.
+    fn find_losses(&mut self, space: Space, looked: u64, far_end: u64, mark: Ticks)
         requires { NoneOwed self.old.packets.packets }
         ensures packets { (c : Settings) (h : List AnEvent) → IsMeasured self.old.connection c h
+            → far_end ≡ far_end_of c h space
             → StandsOnceFound self.old.packets c h space looked → StandsFor self.new.packets c h }
         ensures connection { (c : Settings) (h : List AnEvent) → IsToleratedRun c h
             → LosesWhatIsOwed c h
-            → IsMeasured self.old.connection c h → StandsOnceFound self.old.packets c h space looked
+            → IsMeasured self.old.connection c h → far_end ≡ far_end_of c h space
+            → StandsOnceFound self.old.packets c h space looked
             → self.new.connection
             ≡ with_persistent_congestion (loss.is_persistent c h)
-            (with_congestion_event now (last_sent (loss.declared c h)) self.old.connection) }
+            (with_congestion_event mark (last_sent c (loss.declared c h)) self.old.connection) }
         ensures range { AreInRange self.old.connection.header }
         ensures numbers { self.new.numbers ≡ self.old.numbers }
         ensures watch { self.new.watch ≡ self.old.watch }
     {
-        let thresholds = thresholds(&self.connection, space, looked);
+        let thresholds = thresholds(&self.connection, space, looked, far_end);
         self.packets.detect(space, &thresholds);
-        let losses = losses(&self.packets, &self.connection);
-        self.connection.lose(losses, now);
+        let losses = losses(&self.packets, &self.connection.header, &self.connection.rtt);
+        self.connection.lose(losses, mark);
     }
 
     /// Ends an event that happened now and looked for losses or did not: it is counted, packets
@@ -384,43 +397,45 @@ fn looks_at(early: u64, time: Ticks, due: Option<u64>) -> u64
 }
 
 /// By what the event tells which packets of the space are past a threshold, as of a time.
-fn thresholds(connection: &Connection, space: Space, now: u64) -> Thresholds
+fn thresholds(connection: &Connection, space: Space, now: u64, far_end: u64) -> Thresholds
     ensures { (c : Settings) (h : List AnEvent) → IsMeasured connection.now c h
-        → AreThresholdsAt c h space now result }
+        → far_end ≡ far_end_of c h space → AreThresholdsAt c h space now result }
 {
     Thresholds {
         header: connection.header,
         rtt: connection.rtt,
         now,
         largest: connection.spaces.of(space).largest,
+        far_end,
     }
 }
 
-/// What is lost by the last event: what is held as owed.
+/// What is lost by the last event: what is held as owed. The estimate is the one by which its
+/// losses are found.
 #[inline(always)]
-fn losses(packets: &SentPackets, connection: &Connection) -> Losses
+fn losses(packets: &SentPackets, header: &Header, rtt: &Rtt) -> Losses
     ensures { (c : Settings) (h : List AnEvent) → HoldsLosses packets.now c h → IsToleratedRun c h
-        → IsMeasured connection.now c h → AreLosses result c h }
+        → header.now ≡ c → rtt.now ≡ sampled c h → AreLosses result c h }
 {
     Losses {
-        last_lost: packets.last_owed(),
-        is_persistent: is_persistent(packets, connection),
+        last_lost: packets.last_owed(header.options().recovery_by_order),
+        is_persistent: is_persistent(packets, header, rtt),
     }
 }
 
 /// Whether what is lost by the last event establishes persistent congestion (RFC 9002, section
-/// 7.6).
+/// 7.6), by the estimate by which its losses are found.
 #[inline(always)]
-fn is_persistent(packets: &SentPackets, connection: &Connection) -> bool
+fn is_persistent(packets: &SentPackets, header: &Header, rtt: &Rtt) -> bool
     ensures { (c : Settings) (h : List AnEvent) → HoldsLosses packets.now c h → IsToleratedRun c h
-        → IsMeasured connection.now c h → result ≡ loss.is_persistent c h }
+        → header.now ≡ c → rtt.now ≡ sampled c h → result ≡ loss.is_persistent c h }
 {
-    match connection.rtt.first_rtt_sample {
+    match rtt.first_rtt_sample {
         None => false,
         Some(first) => {
-            let limit = connection.rtt.persistent_after(
-                connection.header.granularity(),
-                Ticks::of(connection.header.max_ack_delay()),
+            let limit = rtt.persistent_after(
+                header.granularity(),
+                Ticks::of(header.max_ack_delay()),
             );
             packets.is_persistent(limit, first)
         }

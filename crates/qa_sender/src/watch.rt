@@ -9,7 +9,7 @@ ghost use Rattle.qa_sender.specs.connection.Known.{IsOf, IsProperToleratedRun};
 ghost use Rattle.qa_sender.specs.Standing.{StandsFor};
 ghost use Rattle.qa_sender.specs.Watch.{IsWatched};
 
-use crate::answers::open_packets;
+use crate::answers::due_now;
 use crate::connection::Connection;
 use qa_base::{Due, Ticks};
 use qa_sent_packets::SentPackets;
@@ -82,7 +82,7 @@ impl TimerWatch {
             → IsProperToleratedRun c (e ∷ h) → StandsFor packets.now c (e ∷ h)
             → now ≡ events.time_of e → IsWatched self.old c h → IsWatched self.new c (e ∷ h) }
     {
-        self.set(connection.deadline(&open_packets(packets)), now);
+        self.set(due_now(connection, packets), now);
     }
 
     /// Whether a time is past a deadline by more than a limit, where there is a

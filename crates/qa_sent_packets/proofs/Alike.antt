@@ -138,23 +138,28 @@ not_other t s p out here = subst (λ (x : Space). is_space t x ≡ false) (space
 
 -- all but the fate
 pub record IsSame (p q : SentPacket) : Type 0 where
+  pub place : q.place ≡ p.place
   pub time : q.time ≡ p.time
   pub space : q.space ≡ p.space
   pub number : q.number ≡ p.number
   pub size : q.size ≡ p.size
 
 pub same_if : (b : Bool) (g : Fate) (p : SentPacket) → IsSame p (if b then with_fate g p else p)
-same_if true g p = record { time = refl; space = refl; number = refl; size = refl }
-same_if false g p = record { time = refl; space = refl; number = refl; size = refl }
+same_if true g p = record { place = refl; time = refl; space = refl; number = refl; size = refl }
+same_if false g p = record { place = refl; time = refl; space = refl; number = refl; size = refl }
 
 before_same : (p q p' q' : SentPacket) → IsSame p p' → IsSame q q' → IsBefore p q → IsBefore p' q'
 before_same p q p' q' same_p same_q before =
     let earlier = before.time in
+    let sooner = before.place in
+    let place_p = same_p.place in
+    let place_q = same_q.place in
     let time_p = same_p.time in
     let time_q = same_q.time in
     let number_p = same_p.number in
     let number_q = same_q.number in
     record {
+      place = omega (arith, sooner, place_p, place_q);
       time = omega (arith, earlier, time_p, time_q);
       number = λ here.
           let there : is_space p.space q.space ≡ true =

@@ -5,11 +5,11 @@ use Rattle.std.specs.List.{AllByRecursion}
 use Rattle.std.proofs.lemmas.Bool.{and_parts, and_from, both_ways, false_from_ne_true, le-leb, leb-true, lt-ltb, ltb-true, or_cases, or_left, or_right}
 use Rattle.std.proofs.lemmas.List.{drop_at, length-map, length-take-le, map-append, take-append-drop, take-map}
 use Rattle.qa_base.specs.declared.space.Space.{Space}
-use Rattle.qa_base.specs.machine.Detection.{is_far_below, is_past_threshold, is_old}
+use Rattle.qa_base.specs.machine.Detection.{is_old}
 use Rattle.qa_base.specs.machine.Packets.{Packet}
 use Rattle.qa_base.specs.machine.Rtt.{Estimate, loss_delay}
 use Rattle.qa_base.specs.values.Events.{is_space}
-use Rattle.qa_base.specs.values.Settings.{Settings, granularity, is_may}
+use Rattle.qa_base.specs.values.Settings.{Settings, is_may}
 use Rattle.qa_sent_packets.specs.Detection.{IsEnd, lost_in}
 use Rattle.qa_sent_packets.specs.BySpace.{awaiting_count}
 use Rattle.qa_sent_packets.specs.Fates.{flight_bytes, is_flying, is_open, is_owed, is_unacknowledged, is_waiting}
@@ -107,26 +107,27 @@ found_alike s l t out p = alike_if t (is_flying s p && is_past_threshold_by l p)
 -- what was sent no later is no less old
 earlier_is_old : (c : Settings) (r : Estimate) (now : ℕ) (p q : Packet) → q.time ≤ p.time → is_old c r now p ≡ true → is_old c r now q ≡ true
 earlier_is_old c r now p q earlier old =
-    let waited = leb-true (loss_delay (granularity c) r) (now - p.time) old in
-    le-leb (loss_delay (granularity c) r) (now - q.time) (omega (arith, earlier, waited))
+    let waited = leb-true (loss_delay c r) (now - p.time) old in
+    le-leb (loss_delay c r) (now - q.time) (omega (arith, earlier, waited))
 
 -- of two packets, if the one with the higher number, sent no earlier, is late, so is the other
-earlier_is_past_threshold : (c : Settings) (r : Estimate) (now : ℕ) (largest : Option ℕ) (p q : Packet) → q.number ≤ p.number → q.time ≤ p.time
-    → is_past_threshold c r now largest p ≡ true → is_past_threshold c r now largest q ≡ true
-earlier_is_past_threshold c r now None p q lower earlier late = cc
-earlier_is_past_threshold c r now (Some largest) p q lower earlier late =
-    let must = not (is_may c.options.loss_by_number) in
-    let both = and_parts (nat_lt p.number largest) ((must && is_far_below c largest p) || is_old c r now p) late in
+earlier_is_past_threshold : (l : Thresholds) (o : Option ℕ) (p q : SentPacket) → l.largest ≡ o → q.number ≤ p.number → q.time ≤ p.time
+    → is_past_threshold_by l p ≡ true → is_past_threshold_by l q ≡ true
+earlier_is_past_threshold l None p q is lower earlier late = let not_late = rw is at late in cc
+earlier_is_past_threshold l (Some largest) p q is lower earlier late =
+    let must = not (is_may l.header.options.loss_by_number) in
+    let old : SentPacket → Bool = λ x. is_old l.header l.rtt l.now (packet_at x) in
+    let both = and_parts (nat_lt p.number largest) ((must && nat_lt p.number l.far_end) || old p) (rw is at late) in
     let below = ltb-true p.number largest both.0 in
-    and_from (nat_lt q.number largest) ((must && is_far_below c largest q) || is_old c r now q)
+    rw is (and_from (nat_lt q.number largest) ((must && nat_lt q.number l.far_end) || old q)
     (lt-ltb q.number largest (omega (arith, below, lower)))
-    (elim (or_cases (must && is_far_below c largest p) (is_old c r now p) both.1) [
-      | inl far ↦ (let parts = and_parts must (is_far_below c largest p) far in
-          let three = leb-true c.options.packet_threshold (largest - p.number) parts.1 in
-          or_left (must && is_far_below c largest q) (is_old c r now q)
-          (and_from must (is_far_below c largest q) parts.0 (le-leb c.options.packet_threshold (largest - q.number) (omega (arith, three, lower)))))
-      | inr old ↦ or_right (must && is_far_below c largest q) (is_old c r now q) (earlier_is_old c r now p q earlier old)
-    ])
+    (elim (or_cases (must && nat_lt p.number l.far_end) (old p) both.1) [
+      | inl far ↦ (let parts = and_parts must (nat_lt p.number l.far_end) far in
+          let under = ltb-true p.number l.far_end parts.1 in
+          or_left (must && nat_lt q.number l.far_end) (old q)
+          (and_from must (nat_lt q.number l.far_end) parts.0 (lt-ltb q.number l.far_end (omega (arith, under, lower)))))
+      | inr aged ↦ or_right (must && nat_lt q.number l.far_end) (old q) (earlier_is_old l.header l.rtt l.now (packet_at p) (packet_at q) earlier aged)
+    ]))
 
 -- behind a packet of the space that is not late none is found
 not_behind : (s : Space) (l : Thresholds) (p q : SentPacket) → IsBefore q p → is_space s p.space ≡ true → is_past_threshold_by l p ≡ false → found_by s l q ≡ q
@@ -136,7 +137,7 @@ not_behind s l p q before here not_late =
     let there : is_space s q.space ≡ true = flies_here s q both.0 in
     let together : is_space q.space p.space ≡ true = subst (λ (x : Space). is_space x p.space ≡ true) (space_is s q.space there) here in
     let lower = before.number together in
-    both_ways (is_past_threshold_by l p) not_late (earlier_is_past_threshold l.header l.rtt l.now l.largest (packet_at q) (packet_at p) (omega (arith, lower)) before.time both.1)))
+    both_ways (is_past_threshold_by l p) not_late (earlier_is_past_threshold l l.largest q p refl (omega (arith, lower)) before.time both.1)))
 
 off_right : (a : Bool) → (a && false) ≡ false
 off_right true = refl

@@ -15,17 +15,19 @@ lower p q is same = elim (or_cases _ _ is) [
 
 was_before : (p q : SentPacket) → is_before p q ≡ true → IsBefore p q
 was_before p q is =
-    let both = and_parts _ _ is in
+    let placed = and_parts _ _ is in
+    let both = and_parts _ _ placed.1 in
     record {
+      place = ltb-true _ _ placed.0;
       time = leb-true _ _ both.0;
       number = λ same. ltb-true _ _ (lower p q both.1 same);
     }
 
 is_before_by : (p q : SentPacket) → IsBefore p q → is_before p q ≡ true
-is_before_by p q before = and_from _ _ (le-leb _ _ before.time) (elim (cases_Bool (is_space p.space q.space)) [
+is_before_by p q before = and_from _ _ (lt-ltb _ _ before.place) (and_from _ _ (le-leb _ _ before.time) (elim (cases_Bool (is_space p.space q.space)) [
   | inl same ↦ or_right _ _ (lt-ltb _ _ (before.number same))
   | inr other ↦ or_left _ _ (not_from_false _ other)
-])
+]))
 
 -- each was sent before it where the test says so
 pub were_before : (p : SentPacket) (qs : List SentPacket) → list_all (is_before p) qs ≡ true → AllByRecursion (λ q. IsBefore p q) qs

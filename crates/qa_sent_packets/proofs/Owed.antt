@@ -11,7 +11,7 @@ use Rattle.qa_base.specs.declared.space.Space.{Space}
 use Rattle.qa_base.specs.values.Events.{is_space}
 use Rattle.qa_sent_packets.specs.Fates.{is_acknowledged, is_owed, is_owed_in}
 use Rattle.qa_sent_packets.specs.Owing.{IsOwedPart, NoneOwed, first_space}
-use Rattle.qa_sent_packets.specs.Walks.{are_apart, earliest, is_end, is_far_from, last_owed, owed_numbers, owed_of}
+use Rattle.qa_sent_packets.specs.Walks.{are_apart, earliest, is_end, is_far_from, last_owed, mark_of, owed_numbers, owed_of}
 use Rattle.qa_sent_packets.specs.declared.packet.SentPacket.{SentPacket}
 use Rattle.qa_sent_packets.proofs.Alike.{space_is}
 
@@ -22,23 +22,23 @@ parts ps from to part = split_between ps from to part.order
 
 -- ---- the last of them
 
-last_front : (at : Option ℕ) (xs ys : List SentPacket) → NoneOwed xs → last_owed at (xs ++ ys) ≡ last_owed at ys
-last_front at [] ys none = refl
-last_front at (x ∷ xs) ys none = ap (λ b. last_owed (if b then Some x.time else at) (xs ++ ys)) none.0 ∙ last_front at xs ys none.1
+last_front : (o : Bool) (at : Option ℕ) (xs ys : List SentPacket) → NoneOwed xs → last_owed o at (xs ++ ys) ≡ last_owed o at ys
+last_front o at [] ys none = refl
+last_front o at (x ∷ xs) ys none = ap (λ b. last_owed o (if b then Some (mark_of o x) else at) (xs ++ ys)) none.0 ∙ last_front o at xs ys none.1
 
-last_none : (at : Option ℕ) (xs : List SentPacket) → NoneOwed xs → last_owed at xs ≡ at
-last_none at [] none = refl
-last_none at (x ∷ xs) none = ap (λ b. last_owed (if b then Some x.time else at) xs) none.0 ∙ last_none at xs none.1
+last_none : (o : Bool) (at : Option ℕ) (xs : List SentPacket) → NoneOwed xs → last_owed o at xs ≡ at
+last_none o at [] none = refl
+last_none o at (x ∷ xs) none = ap (λ b. last_owed o (if b then Some (mark_of o x) else at) xs) none.0 ∙ last_none o at xs none.1
 
-last_rest : (at : Option ℕ) (xs ys : List SentPacket) → NoneOwed ys → last_owed at (xs ++ ys) ≡ last_owed at xs
-last_rest at [] ys none = last_none at ys none
-last_rest at (x ∷ xs) ys none = last_rest (if is_owed x.fate then Some x.time else at) xs ys none
+last_rest : (o : Bool) (at : Option ℕ) (xs ys : List SentPacket) → NoneOwed ys → last_owed o at (xs ++ ys) ≡ last_owed o at xs
+last_rest o at [] ys none = last_none o at ys none
+last_rest o at (x ∷ xs) ys none = last_rest o (if is_owed x.fate then Some (mark_of o x) else at) xs ys none
 
-pub last_of_part : (ps : List SentPacket) (from to : ℕ) → IsOwedPart from to ps → last_owed None ps ≡ last_owed None (slice_range ps from to)
-last_of_part ps from to part =
-    ap (last_owed None) (parts ps from to part)
-    ∙ (last_front None (take from ps) (slice_range ps from to ++ drop to ps) part.before
-    ∙ last_rest None (slice_range ps from to) (drop to ps) part.behind)
+pub last_of_part : (o : Bool) (ps : List SentPacket) (from to : ℕ) → IsOwedPart from to ps → last_owed o None ps ≡ last_owed o None (slice_range ps from to)
+last_of_part o ps from to part =
+    ap (last_owed o None) (parts ps from to part)
+    ∙ (last_front o None (take from ps) (slice_range ps from to ++ drop to ps) part.before
+    ∙ last_rest o None (slice_range ps from to) (drop to ps) part.behind)
 
 -- ---- one packet after another
 
@@ -125,8 +125,8 @@ counted_none (p ∷ ps) none =
     let parts = both_zero (cond (is_owed p.fate) 1 0) (count_by (λ q. is_owed q.fate) ps) (sym sum ∙ none) in
     (off_by (is_owed p.fate) parts.0, counted_none ps parts.1)
 
-pub last_of_none : (ps : List SentPacket) → count_by (λ p. is_owed p.fate) ps ≡ 0 → None ≡ last_owed None ps
-last_of_none ps none = sym (last_none None ps (counted_none ps none))
+pub last_of_none : (o : Bool) (ps : List SentPacket) → count_by (λ p. is_owed p.fate) ps ≡ 0 → None ≡ last_owed o None ps
+last_of_none o ps none = sym (last_none o None ps (counted_none ps none))
 
 pub apart_of_none : (limit first : ℕ) (ps : List SentPacket) → count_by (λ p. is_owed p.fate) ps ≡ 0 → false ≡ are_apart limit first None ps
 apart_of_none limit first ps none = sym (apart_none limit first None ps (counted_none ps none))

@@ -222,14 +222,14 @@ taken_written free ranges (x ∷ ps) (suc at) p is left named = ap (λ qs. taken
 
 before_set : (x : SentPacket) (ps : List SentPacket) (at : ℕ) (p : SentPacket) (f : Fate) → AllByRecursion (λ q. IsBefore q x) ps → p ≡ get_or ps at p → AllByRecursion (λ q. IsBefore q x) (set ps at (with_fate f p))
 before_set x [] at p f before is = tt
-before_set x (q ∷ ps) zero p f before is = (let b = subst (λ (z : SentPacket). IsBefore z x) (sym is) before.0 in record { time = b.time; number = b.number }, before.1)
+before_set x (q ∷ ps) zero p f before is = (let b = subst (λ (z : SentPacket). IsBefore z x) (sym is) before.0 in record { place = b.place; time = b.time; number = b.number }, before.1)
 before_set x (q ∷ ps) (suc at) p f before is = (before.0, before_set x ps at p f before.1 is)
 
 -- the order of sending stays
 pub ordered_set : (ps : List SentPacket) (at : ℕ) (p : SentPacket) (f : Fate) → AreOrdered ps → p ≡ get_or ps at p → AreOrdered (set ps at (with_fate f p))
 ordered_set [] at p f ordered is = tt
 ordered_set (x ∷ ps) zero p f ordered is =
-    (each_weaker (λ q. IsBefore q x) (λ q. IsBefore q (with_fate f p)) (λ q before. let b = subst (λ (z : SentPacket). IsBefore q z) (sym is) before in record { time = b.time; number = b.number }) ps ordered.0, ordered.1)
+    (each_weaker (λ q. IsBefore q x) (λ q. IsBefore q (with_fate f p)) (λ q before. let b = subst (λ (z : SentPacket). IsBefore q z) (sym is) before in record { place = b.place; time = b.time; number = b.number }) ps ordered.0, ordered.1)
 ordered_set (x ∷ ps) (suc at) p f ordered is = (before_set x ps at p f ordered.0 is, ordered_set ps at p f ordered.1 is)
 
 -- ---- all are taken

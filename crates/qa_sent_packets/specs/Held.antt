@@ -24,11 +24,14 @@ pub record Held : Type 0 where
 -- q was sent before p
 pub record IsBefore (p q : SentPacket) : Type 0 where
   pub time : q.time ≤ p.time
+  pub place : q.place < p.place
   pub number : is_space p.space q.space ≡ true → q.number < p.number
 
 -- whether it was
 abbrev pub is_before : SentPacket → SentPacket → Bool
-is_before p q = nat_le q.time p.time && (not (is_space p.space q.space) || nat_lt q.number p.number)
+is_before p q =
+    nat_lt q.place p.place
+    && (nat_le q.time p.time && (not (is_space p.space q.space) || nat_lt q.number p.number))
 
 -- each packet was sent before those behind it
 abbrev pub AreOrdered : List SentPacket → Type 0

@@ -1,13 +1,14 @@
 -- What events make of the packets that are kept.
-use Rattle.std.specs.Prelude.{ℕ, ◌+◌, ◌&&◌, Bool, List, drop, length, take_while, Option}
+use Rattle.std.specs.Prelude.{ℕ, ◌+◌, ◌&&◌, ◌||◌, not, nat_lt, Bool, List, drop, length, take_while}
+use Rattle.std.specs.Prelude.{Option}
 use Rattle.std.specs.Prelude.{if◌then◌else◌}
 use Rattle.qa_base.specs.declared.space.Space.{Space}
 use Rattle.qa_base.specs.declared.space.Permission.TheVariants.{Window}
-use Rattle.qa_base.specs.machine.Detection.{is_past_threshold}
-use Rattle.qa_base.specs.machine.Packets.{Packet}
+use Rattle.qa_base.specs.machine.Detection.{is_old}
+use Rattle.qa_base.specs.machine.Packets.{Packet, is_below_largest}
 use Rattle.qa_base.specs.machine.Rtt.{Estimate}
 use Rattle.qa_base.specs.values.Events.{is_named}
-use Rattle.qa_base.specs.values.Settings.{Settings}
+use Rattle.qa_base.specs.values.Settings.{Settings, is_may}
 use Rattle.qa_sent_packets.specs.Fates.{is_closed, is_flying, is_owed, is_waiting}
 use Rattle.qa_sent_packets.specs.Held.{Held}
 use Rattle.qa_sent_packets.specs.declared.fate.Fate.{Fate}
@@ -19,6 +20,7 @@ use Rattle.qa_sent_packets.specs.declared.packet.SentPacket.{SentPacket}
 abbrev pub with_fate : Fate → SentPacket → SentPacket
 with_fate f p = record {
   time = p.time;
+  place = p.place;
   space = p.space;
   number = p.number;
   size = p.size;
@@ -35,12 +37,14 @@ covered_by s ranges p =
 -- ---- detection (RFC 9002, A.10)
 
 -- by what a detection tells which packets are past a threshold: the header, the estimate, as of
--- when it looks, and the largest acknowledged number of its space
+-- when it looks, the largest acknowledged number of its space, and the end of the numbers that lie
+-- below that by the packet threshold
 pub record Thresholds : Type 0 where
   pub header : Settings
   pub rtt : Estimate
   pub now : ℕ
   pub largest : Option ℕ
+  pub far_end : ℕ
 
 -- the packet as the definitions have it, of which a detection asks for its number and time alone
 abbrev pub packet_at : SentPacket → Packet
@@ -55,8 +59,13 @@ packet_at p = record {
   permission = Window;
 }
 
+-- below the largest acknowledged number, for long enough or, where such packets must be lost, by
+-- the packet threshold (sections 6.1.1 and 6.1.2)
 abbrev pub is_past_threshold_by : Thresholds → SentPacket → Bool
-is_past_threshold_by l p = is_past_threshold l.header l.rtt l.now l.largest (packet_at p)
+is_past_threshold_by l p =
+    is_below_largest p.number l.largest
+    && ((not (is_may l.header.options.loss_by_number) && nat_lt p.number l.far_end)
+    || is_old l.header l.rtt l.now (packet_at p))
 
 -- a detection in the space finds those past a threshold of the packets that are open and in flight
 abbrev pub found_by : Space → Thresholds → SentPacket → SentPacket

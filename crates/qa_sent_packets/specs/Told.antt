@@ -26,6 +26,7 @@ fate c h p =
 abbrev pub sent_of : Settings → List Event → Packet → SentPacket
 sent_of c h p = record {
   time = p.time;
+  place = p.place;
   space = p.space;
   number = p.number;
   size = p.size;

@@ -12,10 +12,16 @@ owed_of ps = filter (λ p. is_owed p.fate) ps
 abbrev pub owed_numbers : List SentPacket → List ℕ
 owed_numbers ps = map (λ p. p.number) (owed_of ps)
 
--- when the last of them was sent
-abbrev pub last_owed : Option ℕ → List SentPacket → Option ℕ
-last_owed at [] = at
-last_owed at (p ∷ ps) = last_owed (if is_owed p.fate then Some p.time else at) ps
+-- when a packet was sent, by which recovery is told: its time, or the place of its line where the
+-- order of the lines decides (RFC 9002, section 7.3.2)
+abbrev pub mark_of : Bool → SentPacket → ℕ
+mark_of by_order p = if by_order then p.place else p.time
+
+-- when the last of them was sent, likewise
+abbrev pub last_owed : Bool → Option ℕ → List SentPacket → Option ℕ
+last_owed by_order at [] = at
+last_owed by_order at (p ∷ ps) =
+    last_owed by_order (if is_owed p.fate then Some (mark_of by_order p) else at) ps
 
 -- ---- persistent congestion (RFC 9002, section 7.6)
 

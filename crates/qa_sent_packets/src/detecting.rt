@@ -1,6 +1,6 @@
 //! Detection of losses (RFC 9002, section 6.1, A.10): a walk along the packets of a space.
-ghost use Rattle.std.specs.Prelude.{◌≡◌, ◌≤◌, ◌<◌, ◌+◌, ◌-◌, ℕ, false, true, count_by, drop};
-ghost use Rattle.std.specs.Prelude.{length, map, nat_le, slice_index_or, slice_set};
+ghost use Rattle.std.specs.Prelude.{◌≡◌, ◌≤◌, ◌<◌, ◌+◌, ℕ, false, true, count_by, drop};
+ghost use Rattle.std.specs.Prelude.{length, map, slice_index_or, slice_set};
 ghost use Rattle.qa_base.specs.machine.Detection.{is_old};
 ghost use Rattle.qa_sent_packets.specs.Detection.{IsEnd, IsPassed, lost_in};
 ghost use Rattle.qa_sent_packets.specs.Fates.{is_owed};
@@ -34,6 +34,9 @@ pub struct Thresholds {
     pub now: u64,
     /// The largest acknowledged number of the space, if there is one.
     pub largest: Option<PacketNumber>,
+    /// Above the numbers that lie below that by the packet threshold, whether numbers are counted
+    /// or packets (RFC 9002, section 6.1.1).
+    pub far_end: u64,
 }
 
 impl Model for Thresholds {
@@ -46,10 +49,16 @@ impl Model for Thresholds {
       rtt = l.rtt;
       now = l.now;
       largest = l.largest;
+      far_end = l.far_end;
     } };
 
-    ghost inverse = { λ l.
-        record { header = l.header; rtt = l.rtt; now = l.now; largest = l.largest } };
+    ghost inverse = { λ l. record {
+      header = l.header;
+      rtt = l.rtt;
+      now = l.now;
+      largest = l.largest;
+      far_end = l.far_end;
+    } };
 }
 
 impl Thresholds {
@@ -64,8 +73,7 @@ impl Thresholds {
                 let number = packet.number.get();
                 let is_optional = self.header.options().loss_by_number.is_may();
                 number < largest.get()
-                    && ((!is_optional && is_far_below(self.header, number, largest.get()))
-                        || self.is_old(packet))
+                    && ((!is_optional && number < self.far_end) || self.is_old(packet))
             }
         }
     }
@@ -76,16 +84,8 @@ impl Thresholds {
             (packet_at packet.now) }
     {
         let age = self.now.saturating_sub(packet.time.get());
-        self.rtt.loss_delay(self.header.granularity()) <= age
+        self.rtt.loss_delay(&self.header) <= age
     }
-}
-
-/// Whether a number lies below the largest acknowledged one by the packet threshold or more.
-pub(crate) fn is_far_below(header: Header, number: u64, largest: u64) -> bool
-    requires { number ≤ largest }
-    ensures { result ≡ nat_le header.options.packet_threshold (largest - number) }
-{
-    header.options().packet_threshold <= largest - number
 }
 
 impl PacketQueue {

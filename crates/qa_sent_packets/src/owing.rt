@@ -30,17 +30,22 @@ pub(crate) fn owed_numbers_in(
     Ok(found)
 }
 
-/// When the last of the packets in this part was sent that are owed.
+/// When the last of the packets in this part was sent that are owed, by which recovery is told.
 #[inline(never)]
-pub(crate) fn last_owed_in(packets: &VecDeque<SentPacket>, part: Range<usize>) -> Option<Ticks>
+pub(crate) fn last_owed_in(
+    packets: &VecDeque<SentPacket>,
+    part: Range<usize>,
+    by_order: bool,
+) -> Option<Ticks>
     requires order { part.start ≤ part.end }
     requires within { part.end ≤ length packets.now.items }
-    ensures { result ≡ walks.last_owed None (slice_range packets.now.items part.start part.end) }
+    ensures { result ≡ walks.last_owed by_order None
+        (slice_range packets.now.items part.start part.end) }
 {
     let mut last = None;
     for packet in packets.range(part) {
         if packet.is_owed() {
-            last = Some(packet.time);
+            last = Some(packet.mark(by_order));
         }
     }
     last

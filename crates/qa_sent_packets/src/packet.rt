@@ -7,6 +7,9 @@ use qa_base::{PacketNumber, Space, Ticks};
 pub struct SentPacket {
     /// When it was sent.
     pub time: Ticks,
+    /// How many events came before it, counted as times are, so that recovery can be told by
+    /// either (section 7.3.2).
+    pub place: Ticks,
     /// Its packet number space.
     pub space: Space,
     /// Its number in that space.
@@ -26,6 +29,15 @@ impl SentPacket {
     ghost use Rattle.qa_sent_packets.specs.Fates.{flight_bytes, is_closed, is_flying, is_open};
     ghost use Rattle.qa_sent_packets.specs.Fates.{is_owed, is_waiting};
     ghost use Rattle.qa_sent_packets.specs.BySpace.{awaiting_count};
+    ghost use Rattle.qa_sent_packets.specs.Walks.{mark_of};
+
+    /// When it was sent, by which recovery is told: its time, or the place of its line where the
+    /// order of the lines decides (RFC 9002, section 7.3.2, B.5).
+    pub fn mark(&self, by_order: bool) -> Ticks
+        ensures { result ≡ mark_of by_order self.now }
+    {
+        if by_order { self.place } else { self.time }
+    }
 
     /// Whether it is open.
     pub(crate) fn is_open(&self) -> bool

@@ -22,7 +22,8 @@ ghost use Rattle.std.specs.List.{AllByRecursion, list_any};
 ghost use Rattle.std.specs.Vec.{vec_capacity};
 ghost use Rattle.std.specs.Prelude.{◌≡◌, [], ◌≤◌, ◌<◌, ◌+◌, ◌∷◌, ◌++◌, length, OnErr, OnOk, filter};
 ghost use Rattle.std.specs.Prelude.{IfOk, false, Some, map, ◌&&◌, ◌-◌, true, count_by, drop, None};
-ghost use Rattle.std.specs.Prelude.{◌*◌, ◌^◌, find, reverse, sum_by};
+ghost use Rattle.std.specs.Prelude.{◌*◌, ◌^◌, find, is_none, not, reverse, sum_by};
+ghost use Rattle.std.specs.Option.{option_copied};
 
 use crate::declaring::declare_in;
 use crate::detecting::Thresholds;
@@ -278,16 +279,16 @@ impl SentPackets {
         0 < self.losses.count && space == self.losses.space
     }
 
-    /// When the last of the packets was sent that are owed, by which a congestion controller tells
-    /// whether they stand in recovery (RFC 9002, B.8). None where nothing is owed.
+    /// When the last of the packets was sent that are owed: its mark, by which a congestion
+    /// controller tells whether they stand in recovery (RFC 9002, B.8). None where nothing is owed.
     #[inline(always)]
-    pub fn last_owed(&self) -> Option<Ticks>
-        ensures { result ≡ walks.last_owed None self.now.packets }
+    pub fn last_owed(&self, by_order: bool) -> Option<Ticks>
+        ensures { result ≡ walks.last_owed by_order None self.now.packets }
     {
         if self.losses.count == 0 {
             return None;
         }
-        last_owed_in(&self.queue.packets, self.owed_part())
+        last_owed_in(&self.queue.packets, self.owed_part(), by_order)
     }
 
     /// Whether the losses that are owed establish persistent congestion (RFC 9002, section 7.6):
@@ -456,6 +457,7 @@ impl SentPackets {
 
     /// Whether a packet of the space is open and ack-eliciting, so that its acknowledgment is
     /// waited for (RFC 9002, section 6.2.1).
+    #[inline(always)]
     pub fn awaits(&self, space: Space) -> bool
         ensures { result ≡ list_any (is_awaiting space) self.now.packets }
     {
@@ -464,20 +466,42 @@ impl SentPackets {
 
     /// The first packet of the space that is open and in flight, by which the time is known when
     /// one is lost by its age (RFC 9002, section 6.1.2). None where there is none.
+    #[inline(always)]
     pub fn first_flying(&self, space: Space) -> Option<SentPacket>
         ensures { result ≡ find (is_flying space) self.now.packets }
+    {
+        match self.first_flying_ref(space) {
+            None => None,
+            Some(packet) => Some(*packet),
+        }
+    }
+
+    /// The same where it is kept, for whoever asks for little of it and needs no copy.
+    #[inline(always)]
+    pub fn first_flying_ref(&self, space: Space) -> Option<&SentPacket>
+        ensures { option_copied result ≡ find (is_flying space) self.now.packets }
     {
         let at = (self.by_space.of(space).next - self.queue.dropped) as usize;
         match self.queue.packets.get(at) {
             None => None,
             Some(packet) => {
                 if packet.flies_in(space) {
-                    Some(*packet)
+                    Some(packet)
                 } else {
                     None
                 }
             }
         }
+    }
+
+    /// Whether no packet of the space sets the loss detection timer: none is waited for, and none
+    /// is open and in flight.
+    #[inline(always)]
+    pub fn is_idle(&self, space: Space) -> bool
+        ensures { result ≡ (not (list_any (is_awaiting space) self.now.packets)
+            && is_none (find (is_flying space) self.now.packets)) }
+    {
+        !self.awaits(space) && self.first_flying_ref(space).is_none()
     }
 
     /// How much is kept: the packets, and the entries by which an acknowledgment finds them. It is

@@ -8,7 +8,7 @@ use Rattle.qa_base.specs.declared.header.Version.{Version}
 use Rattle.qa_base.specs.declared.header.Version.TheVariants.{One, Two, Three}
 use Rattle.qa_base.specs.declared.line_kind.LineKind.{LineKind}
 use Rattle.qa_base.specs.values.Names.{key_name, line_kind_name, unit_name, controller_name}
-use Rattle.qa_base.specs.values.Names.{loss_by_number_name}
+use Rattle.qa_base.specs.values.Names.{loss_by_number_name, threshold_counts_name}
 use Rattle.qa_base.specs.values.Settings.{Settings}
 use Rattle.qa_format.specs.format.Written.{integer, boolean, string}
 
@@ -37,6 +37,17 @@ with_options One options ms = ms
 with_options Two options ms = with_refresh_and_slack options ms
 with_options Three options ms = with_refresh_and_slack options ms
 
+-- the members with what only a header of version 3 says of losses and of the RTT
+abbrev pub with_loss_choices : Options → Members → Members
+with_loss_choices o ms =
+    with key.TimeThresholdEighths (integer o.time_threshold_eighths)
+    (with key.ThresholdCounts (string (threshold_counts_name o.threshold_counts))
+    (with key.ResetRtt (boolean o.reset_rtt)
+    (with key.RecoveryByOrder (boolean o.recovery_by_order)
+    (with key.PacketThreshold (integer o.packet_threshold)
+    (with key.LossByNumber (string (loss_by_number_name o.loss_by_number))
+    (with key.LatestRttLessDelay (boolean o.latest_rtt_less_delay) ms))))))
+
 -- the members with the keys that only a header of version 3 has
 abbrev pub with_unit_and_choices : Version → Settings → Members → Members
 with_unit_and_choices One s ms = ms
@@ -47,8 +58,7 @@ with_unit_and_choices Three s ms =
     (with key.Unit (string (unit_name s.unit))
     (with key.TimerEarlyUs (integer s.options.timer_early_us)
     (with key.SampleElicitingOnly (boolean s.options.sample_eliciting_only)
-    (with key.PacketThreshold (integer s.options.packet_threshold)
-    (with key.LossByNumber (string (loss_by_number_name s.options.loss_by_number)) ms))))))
+    (with_loss_choices s.options ms)))))
 
 -- the members that each event has
 abbrev pub event_members : LineKind → ℕ → Members

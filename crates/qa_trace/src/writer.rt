@@ -16,11 +16,11 @@ ghost use Rattle.qa_format.specs.format.Written.{written, line_fits, object_of, 
 ghost use Rattle.qa_format.specs.format.Written.{event_pairs, integer_pairs, integer_pair, integer};
 ghost use Rattle.qa_format.specs.format.Written.{string, boolean};
 ghost use Rattle.qa_trace.specs.Members.{with, with_settings, with_options, with_unit_and_choices};
-ghost use Rattle.qa_trace.specs.Members.{event_members};
+ghost use Rattle.qa_trace.specs.Members.{event_members, with_loss_choices};
 
 use qa_base::{
-    Ack, Event, Field, Header, Key, LineKind, MetricValues, SentPacket, Space, Span, Spans, Ticks,
-    TimerKind, Version,
+    Ack, Event, Field, Header, Key, LineKind, MetricValues, Options, SentPacket, Space, Span,
+    Spans, Ticks, TimerKind, Version,
 };
 use qa_format::Line;
 use serde_json::{Map, Value, json};
@@ -116,6 +116,35 @@ fn put_options(
     put_integer(map, alloc, Key::ReportSlackUs, options.report_slack_us)
 }
 
+/// Puts what only a header of version 3 says of losses and of the RTT.
+fn put_loss_choices(
+    map: &mut Map<String, Value>,
+    alloc: Global,
+    options: &Options,
+) -> Result<(), AllocError>
+    ensures { OnOk result (members_view map.new.entries
+        ≡ with_loss_choices options.now (members_view map.old.entries)) }
+{
+    put_flag(
+        map,
+        alloc,
+        Key::LatestRttLessDelay,
+        options.latest_rtt_less_delay,
+    )?;
+    put_text(map, alloc, Key::LossByNumber, options.loss_by_number.name())?;
+    put_integer(map, alloc, Key::PacketThreshold, options.packet_threshold)?;
+    put_flag(map, alloc, Key::RecoveryByOrder, options.recovery_by_order)?;
+    put_flag(map, alloc, Key::ResetRtt, options.reset_rtt)?;
+    let counts = options.threshold_counts.name();
+    put_text(map, alloc, Key::ThresholdCounts, counts)?;
+    put_integer(
+        map,
+        alloc,
+        Key::TimeThresholdEighths,
+        options.time_threshold_eighths,
+    )
+}
+
 /// Puts the unit and the options that only a header of version 3 says.
 fn put_unit_and_choices(
     map: &mut Map<String, Value>,
@@ -129,8 +158,7 @@ fn put_unit_and_choices(
         return Ok(());
     }
     let options = header.options();
-    put_text(map, alloc, Key::LossByNumber, options.loss_by_number.name())?;
-    put_integer(map, alloc, Key::PacketThreshold, options.packet_threshold)?;
+    put_loss_choices(map, alloc, &options)?;
     put_flag(
         map,
         alloc,

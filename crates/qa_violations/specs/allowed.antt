@@ -5,3 +5,4 @@ pub mod Choices
 pub mod Texts
 pub mod Members
 pub mod Rests
+pub mod Items

@@ -6,6 +6,7 @@ mod allowances;
 mod amounts;
 mod before;
 mod choices;
+mod items;
 mod late;
 mod members;
 mod rests;
@@ -14,4 +15,5 @@ mod texts;
 mod told;
 
 pub(crate) use allowances::Allowances;
+pub use items::Allowance;
 pub(crate) use told::{Told, unless_quiet};

@@ -4,10 +4,12 @@
 mod latest;
 mod manner;
 mod objects;
+mod resting;
 mod row;
 mod trace;
 
 pub use latest::Latest;
 pub use manner::Manner;
 pub use objects::LatestObjects;
+pub use resting::header_allowed;
 pub use trace::why_around;

@@ -9,5 +9,6 @@ pub mod laws;
 mod table;
 
 pub use all::{Tolerating, Violation, rows_all, why_all};
-pub use around::{Latest, LatestObjects, Manner, why_around};
+pub use allowed::Allowance;
+pub use around::{Latest, LatestObjects, Manner, header_allowed, why_around};
 pub use table::{Finding, Row, Table, amount, is_kind, unit_of};

@@ -4,6 +4,7 @@ pub mod Hints
 pub mod Values
 pub mod Meant
 pub mod Texts
+pub mod Hidden
 pub mod Objects
 pub mod Why
 pub mod Ending

@@ -19,13 +19,16 @@ use Rattle.qa_explain.specs.members.Losses.{owed}
 use Rattle.qa_explain.specs.members.Object.{flag_at, number_at, opened, string_at, text_of_all}
 use Rattle.qa_explain.specs.members.Subjects.{subject}
 use Rattle.qa_why.specs.Faults.{wanted}
+use Rattle.qa_why.specs.Hidden.{without_hidden}
 
 -- ---- the object around the members
 
--- the file is its first member, and the others stand behind: a line
+-- the file is its first member, in whose name nothing is hidden, and the others stand behind: a
+-- line
 unfoldable pub object_line : List ℕ → List ℕ → List ℕ
 object_line name members =
-    text_of_all (opened ++ string_at (codes "file") name) ++ codes "," ++ members ++ codes "}\n"
+    without_hidden (text_of_all (opened ++ string_at (codes "file") name)) ++ codes "," ++ members
+    ++ codes "}\n"
 
 -- ---- the members of a verdict
 

@@ -31,6 +31,9 @@ pub fn wanted(key: Key) -> &'static str
         Key::RefreshMinRtt
         | Key::WindowOvershoot
         | Key::SampleElicitingOnly
+        | Key::ResetRtt
+        | Key::LatestRttLessDelay
+        | Key::RecoveryByOrder
         | Key::Eliciting
         | Key::InFlight
         | Key::Limited => { "true or false" }
@@ -38,6 +41,8 @@ pub fn wanted(key: Key) -> &'static str
         Key::ReportSlackBytes => "an integer from 0 to 4294967295",
         Key::PacketThreshold => "an integer from 3 to 65535",
         Key::LossByNumber => "the string must, or may where window is reported",
+        Key::ThresholdCounts => "the string numbers or packets",
+        Key::TimeThresholdEighths => "an integer from 9 to 32",
         Key::Space => "the string initial, handshake or app; to discard, initial or handshake",
         Key::Number => "an integer from 0 to 4611686018427387903",
         Key::Size => "an integer from 1 to 65527",

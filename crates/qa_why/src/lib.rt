@@ -8,6 +8,7 @@
 mod causes;
 mod caveats;
 mod faults;
+mod hidden;
 mod hints;
 mod json_rows;
 mod lines;

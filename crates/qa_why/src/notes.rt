@@ -69,6 +69,7 @@ impl<J: Judge, A: Notes<J>, B: Notes<J>> Notes<J> for Both<A, B> {
     ghost covers = { λ name begun both ls.
         A.covers name begun.first both.first ls × B.covers name begun.second both.second ls };
 
+    #[inline(always)]
     fn note(
         &mut self,
         name: &str,

@@ -3,6 +3,7 @@ ghost use Rattle.std.specs.Prelude.{◌≡◌, ◌++◌, IfOk, OnOk};
 ghost use Rattle.qa_why.specs.Objects as text;
 
 use crate::faults::wanted;
+use crate::hidden::without_hidden;
 use crate::lines::extend;
 use qa_base::{Event, Field, Key, Rule, TimeUnit, Totals};
 use qa_explain::members::{Object, push_facts, push_owed, push_subject};
@@ -10,14 +11,16 @@ use qa_format::Fault;
 use qa_ledger::{Cause, Owed};
 use std::alloc::{AllocError, Global};
 
-/// The line of an object of a trace: its file, and the members behind it.
+/// The line of an object of a trace: its file, in whose name hidden characters are escaped, and the
+/// members behind it.
 #[tactic(auto, unfolding(crate::specs::Objects::object_line))]
 pub fn object_line(alloc: Global, name: &str, members: &[u8]) -> Result<Vec<u8>, AllocError>
     ensures { IfOk result (λ line. line.items ≡ text.object_line name.now members.now) }
 {
     let mut object = Object::new(alloc)?;
     object.string("file", name)?;
-    let mut line = object.into_bytes();
+    let front = object.into_string()?;
+    let mut line = without_hidden(alloc, front.as_str())?;
     extend(&mut line, b",")?;
     extend(&mut line, members)?;
     extend(&mut line, b"}\n")?;

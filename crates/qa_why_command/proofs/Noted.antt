@@ -10,6 +10,7 @@ use Rattle.qa_check.specs.Writing.{BeginsToldRead, ShowsToldRead}
 use Rattle.qa_check.specs.declared.auditing.AuditFault.{AuditFault}
 use Rattle.qa_check.specs.declared.auditing.AuditFault.TheVariants as faults
 use Rattle.qa_check.specs.declared.auditing.Outcome.{Outcome}
+use Rattle.qa_commands.specs.Names.{shown_lines}
 use Rattle.qa_format.specs.format.Reading.{reading}
 use Rattle.qa_format.specs.verdicts.Explain.{told}
 use Rattle.qa_format.specs.verdicts.Verdict.{Judging, strict, verdict}
@@ -32,7 +33,7 @@ told_whole (Ok u) a b n n' bytes ok err count is = (false, record { wrote = ok; 
 told_whole (Err fault) a b n n' bytes ok err count is = (true, record { wrote = begins_taken a b bytes err; counted = rw is at count })
 
 -- of arguments that were refused
-pub refused_by : (text : List ℕ) (input : Input) (output error error' : Stream) → WasTold error error' text → Refuses 64 (streams input output error) (streams input output error')
+pub refused_by : (text : List ℕ) (input : Input) (output error error' : Stream) → WasTold error error' (shown_lines text) → Refuses 64 (streams input output error) (streams input output error')
 refused_by text input output error error' told = (refl, (text, (refl, refl, told)))
 
 -- ---- texts

@@ -7,7 +7,7 @@ use Rattle.qa_arguments.specs.declared.fault.ArgumentsFault.TheVariants as argum
 use Rattle.qa_check.specs.Failures.{failures_after}
 use Rattle.qa_check.specs.Writing.{Begins}
 use Rattle.qa_check.specs.declared.auditing.AuditFault.TheVariants as faults
-use Rattle.qa_commands.specs.Names.{line_with}
+use Rattle.qa_commands.specs.Names.{line_with, shown_lines}
 use Rattle.qa_arguments.specs.why.Asked.{Request, refuses, shows, tells}
 use Rattle.qa_arguments.specs.why.Words.{asked}
 use Rattle.qa_why_command.specs.Ending.{failure_line}
@@ -29,9 +29,10 @@ TellsOnly text before after =
     (after.input ≡ before.input) × (after.output ≡ before.output)
     × WasTold before.error after.error text
 
--- the arguments were refused by a text
+-- the arguments were refused by the lines of a text, in which nothing is hidden
 abbrev pub Refuses : ℕ → Streams → Streams → Type 0
-Refuses status before after = (status ≡ 64) × ((text : List ℕ) × TellsOnly text before after)
+Refuses status before after =
+    (status ≡ 64) × ((text : List ℕ) × TellsOnly (shown_lines text) before after)
 
 -- the arguments cannot be read for want of memory
 abbrev pub LacksMemory : ℕ → Streams → Streams → Type 0

@@ -1,6 +1,8 @@
 //! The whole command: what its arguments ask for.
-ghost use Rattle.std.specs.Prelude.{◌≡◌, false, map, string_bytes};
+ghost use Rattle.std.specs.Prelude.{◌≡◌, false, map, string_bytes, IfOk};
+ghost use Rattle.std.specs.Str.Lossy.{utf8_lossy};
 ghost use Rattle.qa_arguments.specs.why.Words.{asked};
+ghost use Rattle.qa_check.specs.names.Names.{shown_name};
 ghost use Rattle.qa_why_command.specs.Commands.{Commands, IsRefused, Shows, asks_for_input};
 ghost use Rattle.qa_why_command.specs.Streams.{streams};
 
@@ -8,9 +10,9 @@ use crate::ending::Failure;
 use crate::traces::tell;
 use qa_arguments::ArgumentsFault;
 use qa_arguments::why::{Asked, parse};
-use qa_check::{AuditFault, Sink, Source, write_whole};
-use qa_commands::write_line;
-use std::alloc::Global;
+use qa_check::{AuditFault, Sink, Source, shown_name, write_whole};
+use qa_commands::{write_line, write_lines};
+use std::alloc::{AllocError, Global};
 use std::rt::Files;
 
 /// The exit status where the arguments are refused.
@@ -46,7 +48,8 @@ pub fn command<R: Files, I: Source, O: Sink, E: Sink>(
         Ok(Asked::Why(inquiry)) => tell(rt, alloc, &inquiry, input, output, error),
         Ok(Asked::Text(text)) => show(text.as_str(), output, error),
         Ok(Asked::Nothing(text)) => {
-            let _begun = write_whole(error, text.as_bytes());
+            let text = refusal(alloc, arguments, text);
+            let _begun = write_lines(text.as_str(), error);
             USAGE
         }
         Err(_) => {
@@ -54,6 +57,34 @@ pub fn command<R: Files, I: Source, O: Sink, E: Sink>(
             FAILED
         }
     }
+}
+
+/// What is wrong with arguments that are refused, each of which is named as the name of a file is
+/// shown, so that none can fake a line; or this text, where there is no memory for that.
+fn refusal(alloc: Global, arguments: &[String], text: String) -> String {
+    match refusal_of_shown(alloc, arguments) {
+        Ok(Some(shown)) => shown,
+        Ok(None) | Err(_) => text,
+    }
+}
+
+/// What is wrong with the arguments as they are shown, which mean nothing where they did not.
+fn refusal_of_shown(alloc: Global, arguments: &[String]) -> Result<Option<String>, AllocError> {
+    let mut shown = Vec::new(alloc);
+    for argument in arguments {
+        shown.push(shown_argument(alloc, argument.as_str())?)?;
+    }
+    let asked = parse(alloc, &shown)?;
+    match asked {
+        Asked::Nothing(text) => Ok(Some(text)),
+        Asked::Why(_) | Asked::Text(_) => Ok(None),
+    }
+}
+
+fn shown_argument(alloc: Global, argument: &str) -> Result<String, AllocError>
+    ensures { IfOk result (λ shown. string_bytes shown ≡ utf8_lossy (shown_name argument.now)) }
+{
+    String::from_utf8_lossy(alloc, &shown_name(alloc, argument)?)
 }
 
 /// Ends where the arguments cannot be read: tells it on standard error, and returns the exit

@@ -7,7 +7,8 @@ use Rattle.qa_format.specs.declared.line.Line.{Line}
 use Rattle.qa_format.specs.declared.verdict.Verdict.{Verdict}
 use Rattle.qa_format.specs.format.Lines.{with_lf}
 use Rattle.qaudit_c.specs.Statuses as statuses
-use Rattle.qa_embed.specs.Session.{Run, IsFed, phase_of, verdict_in}
+use Rattle.qa_embed.specs.Recording.{GrowsIf}
+use Rattle.qa_embed.specs.Session.{Run, IsFed, is_open, phase_of, recorded_of, verdict_in}
 use Rattle.qa_embed.specs.declared.Phase.{Phase}
 use Rattle.qa_embed.specs.declared.Phase.TheVariants.{Open, Fixed, Finished, OutOfMemory}
 
@@ -29,21 +30,33 @@ abbrev pub verdict_known : Option Run → Option Verdict
 verdict_known None = None
 verdict_known (Some run) = verdict_in (phase_of run)
 
+-- what a handle holds is out of memory
+abbrev pub HasNoMemory : Option Run → Type 0
+HasNoMemory None = ⊥
+HasNoMemory (Some run) = phase_of run ≡ OutOfMemory
+
 -- these bytes were handed to what a handle holds
 abbrev pub HoldsFed : Option Run → List ℕ → Type 0
 HoldsFed None bytes = ⊥
 HoldsFed (Some run) bytes = IsFed run bytes
 
+-- the text that is kept of what was handed to it
+abbrev pub text_kept : Option Run → Option (List ℕ)
+text_kept None = None
+text_kept (Some run) = recorded_of run
+
 -- ---- bytes
 
 -- a session is fed the piece while it is open, and stays as it is from then on; it is not finished
--- by this
+-- by this. The piece is put behind the text that is kept, or none is kept any more
 pub record FeedsRun (piece : List ℕ) (result : ℕ) (old new : Run) : Type 0 where
   pub status : result ≡ phase_number (phase_of new)
   pub fed : old.finished ≡ false → (bytes : List ℕ) → IsFed old bytes → IsFed new (bytes ++ piece)
   pub finished : old.finished ≡ true → new ≡ old
   pub same : new.finished ≡ old.finished
   pub kept : phase_of old ≢ Open → new ≡ old
+  pub recorded : old.finished ≡ false
+      → GrowsIf (is_open old.audit.progress) piece old.recorded new.recorded
 
 abbrev pub Feeds : List ℕ → ℕ → Option Run → Option Run → Type 0
 Feeds piece result None new = (result ≡ statuses.closed) × (new ≡ None)
@@ -88,10 +101,10 @@ abbrev pub Hands : Option Line → ℕ → Option Run → Option Run → Type 0
 Hands x result None new = (result ≡ statuses.closed) × (new ≡ None)
 Hands x result (Some old) new = (run : Run) × (new ≡ Some run) × HandsRun x result old run
 
--- ---- texts
+-- ---- texts and lists
 
 -- the text has n bytes; where they fit they stand at the front, and all behind them is as it was;
--- else all is
-abbrev pub Tells : ℕ → List ℕ → List ℕ → List ℕ → Type 0
+-- else all is; and so for a list of other items
+abbrev pub Tells : {A : Type 0} → ℕ → List A → List A → List A → Type 0
 Tells n old new text =
     (n ≡ length text) × (n ≤ length old → new ≡ text ++ drop n old) × (length old < n → new ≡ old)

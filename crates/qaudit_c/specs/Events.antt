@@ -10,11 +10,13 @@ use Rattle.qa_base.specs.declared.event.MetricValues.{MetricValues}
 use Rattle.qa_base.specs.declared.header.Options.{Options}
 use Rattle.qa_base.specs.declared.space.Controller.{Controller}
 use Rattle.qa_base.specs.declared.space.LossByNumber.{LossByNumber}
+use Rattle.qa_base.specs.declared.space.ThresholdCounts.{ThresholdCounts}
 use Rattle.qa_base.specs.declared.space.Permission.{Permission}
 use Rattle.qa_base.specs.declared.space.Role.{Role}
 use Rattle.qa_base.specs.declared.space.Space.{Space}
 use Rattle.qa_base.specs.declared.space.TimeUnit.{TimeUnit}
 use Rattle.qa_base.specs.values.Constants.{default_packet_threshold}
+use Rattle.qa_base.specs.values.Constants.{default_time_threshold_eighths}
 use Rattle.qa_base.specs.values.Events.{fits}
 use Rattle.qa_base.specs.values.Limits.{in_range, max_time, max_packet_number}
 use Rattle.qa_base.specs.values.Settings.{Settings, settings_in, choosing_options}
@@ -30,7 +32,7 @@ use Rattle.qaudit_c.specs.declared.structs.Metrics.{Metrics}
 use Rattle.qaudit_c.specs.declared.structs.TraceHeader.{TraceHeader}
 use Rattle.qaudit_c.specs.Numbers.{space_numbered, permission_numbered, timer_numbered}
 use Rattle.qaudit_c.specs.Numbers.{role_numbered, unit_numbered, controller_numbered}
-use Rattle.qaudit_c.specs.Numbers.{loss_by_number_numbered}
+use Rattle.qaudit_c.specs.Numbers.{loss_by_number_numbered, threshold_counts_numbered}
 
 -- the event, where it fits
 abbrev pub fitting : Event → Option Event
@@ -183,8 +185,8 @@ abbrev pub ok_of : {A E : Type 0} → Result A E → Option A
 ok_of (Ok x) = Some x
 ok_of (Err e) = None
 
-abbrev pub options_of : TraceHeader → Controller → LossByNumber → Options
-options_of h controller loss = record {
+abbrev pub options_of : TraceHeader → Controller → LossByNumber → ThresholdCounts → Options
+options_of h controller loss counts = record {
   timer_late = given h.has_timer_late_us h.timer_late_us;
   refresh_min_rtt = h.refresh_min_rtt;
   report_slack_us = h.report_slack_us;
@@ -196,6 +198,13 @@ options_of h controller loss = record {
       if h.has_packet_threshold then h.packet_threshold else default_packet_threshold;
   timer_early_us = h.timer_early_us;
   loss_by_number = loss;
+  threshold_counts = counts;
+  reset_rtt = h.reset_rtt;
+  latest_rtt_less_delay = h.latest_rtt_less_delay;
+  time_threshold_eighths =
+      if h.has_time_threshold_eighths then h.time_threshold_eighths
+      else default_time_threshold_eighths;
+  recovery_by_order = h.recovery_by_order;
 }
 
 abbrev pub plain_said : TraceHeader → Role → TimeUnit → Option Settings
@@ -210,8 +219,10 @@ header_said h =
     option_and_then (λ unit.
     option_and_then (λ controller.
     option_and_then (λ loss.
-    option_and_then (λ plain. ok_of (choosing_options plain (options_of h controller loss)))
-    (plain_said h role unit)) (loss_by_number_numbered h.loss_by_number))
+    option_and_then (λ counts.
+    option_and_then (λ plain. ok_of (choosing_options plain (options_of h controller loss counts)))
+    (plain_said h role unit)) (threshold_counts_numbered h.threshold_counts))
+    (loss_by_number_numbered h.loss_by_number))
     (controller_numbered h.window)) (unit_numbered h.unit)) (role_numbered h.role)
 
 -- ---- lines

@@ -4,3 +4,4 @@ pub mod Statuses
 pub mod Events
 pub mod Telling
 pub mod Calls
+pub mod Reasons

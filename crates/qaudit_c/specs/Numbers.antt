@@ -16,6 +16,8 @@ use Rattle.qa_base.specs.declared.space.Controller.{Controller}
 use Rattle.qa_base.specs.declared.space.Controller.TheVariants.{NewReno, Reported}
 use Rattle.qa_base.specs.declared.space.LossByNumber.{LossByNumber}
 use Rattle.qa_base.specs.declared.space.LossByNumber.TheVariants.{Must, May}
+use Rattle.qa_base.specs.declared.space.ThresholdCounts.{ThresholdCounts}
+use Rattle.qa_base.specs.declared.space.ThresholdCounts.TheVariants.{Numbers, Packets}
 use Rattle.qa_base.specs.declared.space.TimerKind.{TimerKind}
 use Rattle.qa_base.specs.declared.space.TimerKind.TheVariants.{Loss, Pto}
 use Rattle.qa_base.specs.declared.space.Permission.{Permission}
@@ -51,6 +53,10 @@ controller_numbered n = if n == 0 then Some NewReno else (if n == 1 then Some Re
 
 abbrev pub loss_by_number_numbered : ℕ → Option LossByNumber
 loss_by_number_numbered n = if n == 0 then Some Must else (if n == 1 then Some May else None)
+
+abbrev pub threshold_counts_numbered : ℕ → Option ThresholdCounts
+threshold_counts_numbered n =
+    if n == 0 then Some Numbers else (if n == 1 then Some Packets else None)
 
 -- ---- rules, faults and keys
 
@@ -134,6 +140,11 @@ key_number key.Delay = 27
 key_number key.Limited = 28
 key_number key.Kind = 29
 key_number (key.Metric f) = field_number f
+key_number key.LatestRttLessDelay = 37
+key_number key.TimeThresholdEighths = 38
+key_number key.ThresholdCounts = 39
+key_number key.ResetRtt = 40
+key_number key.RecoveryByOrder = 41
 
 abbrev pub key_numbered : ℕ → Option Key
 key_numbered n =
@@ -179,7 +190,13 @@ key_numbered n =
     else (if n == 35 then Some
     (key.Metric field.SmoothedRtt)
     else (if n == 36 then Some
-    (key.Metric field.Rttvar) else None)))))))))))))))))))))))))))))))))))
+    (key.Metric field.Rttvar)
+    else (if n == 37 then Some key.LatestRttLessDelay
+    else (if n == 38 then Some key.TimeThresholdEighths
+    else (if n == 39 then Some key.ThresholdCounts
+    else (if n == 40 then Some key.ResetRtt
+    else (if n == 41 then Some
+    key.RecoveryByOrder else None))))))))))))))))))))))))))))))))))))))))
 
 -- the key of the value that a rule is about
 abbrev pub rule_subject : Rule → Option Key

@@ -1,11 +1,20 @@
--- What C is told of a verdict.
-use Rattle.std.specs.Prelude.{true, false, Option, Some, None, is_some, unwrap_or}
+-- What C is told of a verdict, and of what it rests on.
+use Rattle.std.specs.Prelude.{ℕ, min, ◌-◌, ◌^◌, true, false, List, map, Option, Some, None, is_some}
+use Rattle.std.specs.Prelude.{unwrap_or}
 use Rattle.qa_base.specs.declared.totals.Totals.{Totals}
 use Rattle.qa_base.specs.values.Names.{rule_number}
 use Rattle.qa_format.specs.declared.verdict.Verdict.{Verdict}
 use Rattle.qa_format.specs.declared.verdict.Verdict.TheVariants.{Accepted, Refused, Unreadable}
 use Rattle.qa_format.specs.format.Faults.{fault_number, key_of}
+use Rattle.qa_format.specs.format.Reading.{reading}
+use Rattle.qa_format.specs.verdicts.Verdict.{strict}
+use Rattle.qa_violations.specs.allowed.Items.{allowances_behind}
+use Rattle.qa_violations.specs.allowed.Lines.{each}
+use Rattle.qa_violations.specs.around.Around.{outcome_by}
+use Rattle.qa_violations.specs.declared.allowed.items.Allowance.{Allowance}
+use Rattle.qa_why.specs.Why.{good_lines}
 use Rattle.qaudit_c.specs.declared.telling.Told.{Told}
+use Rattle.qaudit_c.specs.declared.telling.ToldAllowance.{ToldAllowance}
 use Rattle.qaudit_c.specs.declared.telling.ToldTotals.{ToldTotals}
 use Rattle.qaudit_c.specs.Numbers.{rule_subject, subject_number}
 
@@ -66,3 +75,29 @@ told (Unreadable n f t) =
       totals = told_totals_if t;
       has_totals = is_some t;
     }
+
+-- ---- what the header allowed
+
+-- an amount in 64 bits: the most that they hold, where it is more; 0 where there is none
+abbrev pub in_word : Option ℕ → ℕ
+in_word None = 0
+in_word (Some n) = min n (2 ^ 64 - 1)
+
+abbrev pub told_allowance : Allowance → ToldAllowance
+told_allowance a = record {
+  count = a.row.count;
+  first = a.row.first;
+  last = a.row.last;
+  greatest = in_word a.row.greatest;
+  limit = in_word a.limit;
+  rule = rule_number a.row.rule;
+  subject = subject_number (rule_subject a.row.rule);
+  key = subject_number a.key;
+  has_limit = is_some a.limit;
+}
+
+-- what an accepted verdict of these bytes rests on; nothing where it is another
+abbrev pub told_allowances : List ℕ → List ToldAllowance
+told_allowances bytes =
+    map told_allowance
+    (allowances_behind each (outcome_by bytes) (good_lines (strict reading) bytes))

@@ -66,6 +66,16 @@ pub fn close(alloc: Global, qaudit: &mut Qaudit)
 pub fn try_open(alloc: Global) -> Option<Box<Session, Global>>
     ensures open { IfSome result (λ b. phase_of b.value ≡ phases.Open) }
     ensures fed { IfSome result (λ b. IsFed b.value []) }
+    ensures off { IfSome result (λ b. b.value.recorded ≡ None) }
 {
     Box::new(alloc, Session::new(alloc)).ok()
+}
+
+/// The same, which keeps the text of what it is handed.
+pub fn try_open_recorded(alloc: Global) -> Option<Box<Session, Global>>
+    ensures open { IfSome result (λ b. phase_of b.value ≡ phases.Open) }
+    ensures fed { IfSome result (λ b. IsFed b.value []) }
+    ensures on { IfSome result (λ b. b.value.recorded ≡ Some []) }
+{
+    Box::new(alloc, Session::recording(alloc)).ok()
 }

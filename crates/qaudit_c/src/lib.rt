@@ -3,14 +3,16 @@
 //! No call asks for more than its types say: each wrong order of calls has an answer.
 #![tactic(auto)]
 
-ghost use Rattle.std.specs.Prelude.{◌≡◌, ◌≢◌, ◌⊎◌, [], List, ℕ, None, IfSome, is_some, length};
+ghost use Rattle.std.specs.Prelude.{◌≡◌, ◌≢◌, ◌⊎◌, [], List, ℕ, None, Some, IfSome, is_some};
+ghost use Rattle.std.specs.Prelude.{length};
 ghost use Rattle.qa_format.specs.format.Reading.{reading};
 ghost use Rattle.qa_format.specs.verdicts.Report as text;
 ghost use Rattle.qa_format.specs.verdicts.Verdict.{strict, verdict};
-ghost use Rattle.qaudit_c.specs.Calls.{Feeds, Finishes, Hands, HoldsFed, Tells, status};
-ghost use Rattle.qaudit_c.specs.Calls.{verdict_known};
+ghost use Rattle.qaudit_c.specs.Calls.{Feeds, Finishes, Hands, HasNoMemory, HoldsFed, Tells};
+ghost use Rattle.qaudit_c.specs.Calls.{status, text_kept, verdict_known};
 ghost use Rattle.qaudit_c.specs.Events as said;
 ghost use Rattle.qaudit_c.specs.Numbers as numbers;
+ghost use Rattle.qaudit_c.specs.Reasons as reasons;
 ghost use Rattle.qaudit_c.specs.Statuses as statuses;
 ghost use Rattle.qaudit_c.specs.Telling as telling;
 
@@ -21,6 +23,8 @@ mod header;
 mod kept;
 mod numbers;
 mod parts;
+mod reasons;
+mod resting;
 mod structs;
 mod telling;
 mod texts;
@@ -31,13 +35,15 @@ use events::{moment_of, sent_values, timer_values, values_of};
 pub use handle::Handle;
 use header::header_of;
 pub use kept::Qaudit;
-use kept::{close, put, take, try_open};
+use kept::{close, put, take, try_open, try_open_recorded};
 use qa_base::{Event, Ticks};
 use qa_check::Verdict;
+use reasons::tell_why;
+use resting::tell_allowed;
 use std::alloc::Global;
 pub use structs::{Acknowledgment, FiredTimer, Metrics, PacketRange, SentPacket, TraceHeader};
 use telling::for_c;
-pub use telling::{Told, ToldTotals};
+pub use telling::{Told, ToldAllowance, ToldTotals};
 use texts::{put_fault_name, put_key_name, put_line, put_report, put_rule_name};
 use with_ranges::{ack_to, lost_to};
 
@@ -50,9 +56,30 @@ pub extern "C" fn qaudit_open(alloc: Global, qaudit: &mut Qaudit) -> u32
     ensures status { result ≡ status qaudit.new.handle.held }
     ensures answer { (result ≡ statuses.still_open) ⊎ (result ≡ statuses.closed) }
     ensures fed { result ≡ statuses.still_open → HoldsFed qaudit.new.handle.held [] }
+    ensures off { IfSome qaudit.new.handle.held (λ run. run.recorded ≡ None) }
 {
     close(alloc, qaudit);
     match try_open(alloc) {
+        Some(session) => {
+            put(qaudit, session);
+            OPEN
+        }
+        None => CLOSED,
+    }
+}
+
+/// Opens a session as `qaudit_open` does, which keeps the text of what it is handed: pieces as they
+/// are, and of an event the line that says it, with an LF. Where there is no memory for more text,
+/// it keeps none from then on.
+#[unsafe(no_mangle)]
+pub extern "C" fn qaudit_open_recorded(alloc: Global, qaudit: &mut Qaudit) -> u32
+    ensures status { result ≡ status qaudit.new.handle.held }
+    ensures answer { (result ≡ statuses.still_open) ⊎ (result ≡ statuses.closed) }
+    ensures fed { result ≡ statuses.still_open → HoldsFed qaudit.new.handle.held [] }
+    ensures on { IfSome qaudit.new.handle.held (λ run. run.recorded ≡ Some []) }
+{
+    close(alloc, qaudit);
+    match try_open_recorded(alloc) {
         Some(session) => {
             put(qaudit, session);
             OPEN
@@ -325,6 +352,66 @@ pub extern "C" fn qaudit_first_line(alloc: Global, qaudit: &mut Qaudit, out: &mu
         Some(verdict) => put_line(alloc, &verdict, out),
         None => 0,
     }
+}
+
+/// Puts why what was recorded is refused at the front of `out`, as `qaudit-why` tells it of a trace
+/// on standard input that ends there, and returns how long it is: 0 where nothing is recorded or it
+/// is out of memory. Where `out` is shorter, nothing is put there.
+#[unsafe(no_mangle)]
+pub extern "C" fn qaudit_why(alloc: Global, qaudit: &mut Qaudit, out: &mut [u8]) -> usize
+    ensures kept { qaudit.new.handle.held ≡ qaudit.old.handle.held }
+    ensures length { length out.new ≡ length out.old }
+    ensures none { result ≡ 0 → out.new ≡ out.old }
+    ensures memory { HasNoMemory qaudit.old.handle.held → result ≡ 0 }
+    ensures nothing { text_kept qaudit.old.handle.held ≡ None → result ≡ 0 }
+    ensures told { result ≢ 0 → (bytes : List ℕ) × HoldsFed qaudit.old.handle.held bytes
+        × (text_kept qaudit.old.handle.held ≡ Some bytes)
+        × Tells result out.old out.new (reasons.why bytes) }
+{
+    tell_why(alloc, qaudit, 0, out)
+}
+
+/// Puts the same at the front of `out`, with so many of the last good lines before, as
+/// `qaudit-why --around` tells it.
+#[unsafe(no_mangle)]
+pub extern "C" fn qaudit_around(
+    alloc: Global,
+    qaudit: &mut Qaudit,
+    rows: u16,
+    out: &mut [u8],
+) -> usize
+    ensures kept { qaudit.new.handle.held ≡ qaudit.old.handle.held }
+    ensures length { length out.new ≡ length out.old }
+    ensures none { result ≡ 0 → out.new ≡ out.old }
+    ensures memory { HasNoMemory qaudit.old.handle.held → result ≡ 0 }
+    ensures nothing { text_kept qaudit.old.handle.held ≡ None → result ≡ 0 }
+    ensures told { result ≢ 0 → (bytes : List ℕ) × HoldsFed qaudit.old.handle.held bytes
+        × (text_kept qaudit.old.handle.held ≡ Some bytes)
+        × Tells result out.old out.new (reasons.around rows bytes) }
+{
+    tell_why(alloc, qaudit, rows, out)
+}
+
+/// Puts what the header allowed past each rule at the front of `out`, in the order of the rules,
+/// and returns how much that is: 0 where nothing was allowed, where what was recorded is not
+/// accepted as a trace that ends there, where nothing is recorded or it is out of memory. Where
+/// `out` is shorter, nothing is put there.
+#[unsafe(no_mangle)]
+pub extern "C" fn qaudit_allowed(
+    alloc: Global,
+    qaudit: &mut Qaudit,
+    out: &mut [ToldAllowance],
+) -> usize
+    ensures kept { qaudit.new.handle.held ≡ qaudit.old.handle.held }
+    ensures length { length out.new ≡ length out.old }
+    ensures none { result ≡ 0 → out.new ≡ out.old }
+    ensures memory { HasNoMemory qaudit.old.handle.held → result ≡ 0 }
+    ensures nothing { text_kept qaudit.old.handle.held ≡ None → result ≡ 0 }
+    ensures told { result ≢ 0 → (bytes : List ℕ) × HoldsFed qaudit.old.handle.held bytes
+        × (text_kept qaudit.old.handle.held ≡ Some bytes)
+        × Tells result out.old out.new (telling.told_allowances bytes) }
+{
+    tell_allowed(alloc, qaudit, out)
 }
 
 /// Puts the name of the rule of this number, 1 for V1, at the front of `out`, where it fits, and

@@ -5,7 +5,8 @@ ghost use Rattle.qa_format.specs.format.Faults as faults;
 ghost use Rattle.qaudit_c.specs.Numbers as numbers;
 
 use qa_base::{
-    Controller, Field, Key, LossByNumber, Permission, Role, Rule, Space, TimeUnit, TimerKind,
+    Controller, Field, Key, LossByNumber, Permission, Role, Rule, Space, ThresholdCounts, TimeUnit,
+    TimerKind,
 };
 use qa_format::Fault;
 
@@ -91,6 +92,17 @@ pub fn loss_by_number_of(number: u32) -> Option<LossByNumber>
     }
 }
 
+/// What the packet threshold counts, of this number.
+pub fn threshold_counts_of(number: u32) -> Option<ThresholdCounts>
+    ensures { result ≡ numbers.threshold_counts_numbered number }
+{
+    match number {
+        0 => Some(ThresholdCounts::Numbers),
+        1 => Some(ThresholdCounts::Packets),
+        _ => None,
+    }
+}
+
 /// The rule of this number, 1 for V1; V16 with the first field.
 pub fn rule_of(number: u32) -> Option<Rule>
     ensures { result ≡ numbers.rule_numbered number }
@@ -134,7 +146,7 @@ pub fn field_number(field: Field) -> u32
     }
 }
 
-/// The number of a key, 1 to 36.
+/// The number of a key, 1 to 41.
 pub fn key_number(key: Key) -> u32
     ensures { result ≡ numbers.key_number key }
 {
@@ -169,6 +181,11 @@ pub fn key_number(key: Key) -> u32
         Key::Limited => 28,
         Key::Kind => 29,
         Key::Metric(field) => field_number(field),
+        Key::LatestRttLessDelay => 37,
+        Key::TimeThresholdEighths => 38,
+        Key::ThresholdCounts => 39,
+        Key::ResetRtt => 40,
+        Key::RecoveryByOrder => 41,
     }
 }
 
@@ -233,6 +250,11 @@ pub fn key_of(number: u32) -> Option<Key>
         34 => Some(Key::Metric(Field::MinRtt)),
         35 => Some(Key::Metric(Field::SmoothedRtt)),
         36 => Some(Key::Metric(Field::Rttvar)),
+        37 => Some(Key::LatestRttLessDelay),
+        38 => Some(Key::TimeThresholdEighths),
+        39 => Some(Key::ThresholdCounts),
+        40 => Some(Key::ResetRtt),
+        41 => Some(Key::RecoveryByOrder),
         _ => None,
     }
 }
@@ -297,7 +319,14 @@ pub fn rule_subject(rule: Rule) -> u32
 pub fn fault_subject(fault: Fault) -> u32
     ensures { result ≡ numbers.subject_number (faults.key_of fault) }
 {
-    match fault.key() {
+    key_subject(fault.key())
+}
+
+/// The number of a key; 0 where there is none.
+pub fn key_subject(key: Option<Key>) -> u32
+    ensures { result ≡ numbers.subject_number key }
+{
+    match key {
         Some(key) => key_number(key),
         None => 0,
     }

@@ -1,10 +1,11 @@
-//! What C is told of a verdict.
+//! What C is told of a verdict, and of what it rests on.
 ghost use Rattle.std.specs.Prelude.{◌≡◌};
 ghost use Rattle.qaudit_c.specs.Telling as telling;
 
-use crate::numbers::{fault_number, fault_subject, rule_number, rule_subject};
+use crate::numbers::{fault_number, fault_subject, key_subject, rule_number, rule_subject};
 use qa_base::Totals;
 use qa_format::Verdict;
+use qa_violations::Allowance;
 
 /// The totals of a verdict.
 #[repr(C)]
@@ -105,5 +106,49 @@ pub fn for_c(verdict: &Verdict) -> Told
             totals: told_totals_if(totals),
             has_totals: totals.is_some(),
         },
+    }
+}
+
+/// What a header allowed past a rule. `rule` is its number, `subject` that of the reported value,
+/// and `key` that of the key that allows it.
+#[repr(C)]
+#[derive(Clone, Copy, Debug, PartialEq, Eq)]
+pub struct ToldAllowance {
+    pub count: u64,
+    pub first: u64,
+    pub last: u64,
+    pub greatest: u64,
+    pub limit: u64,
+    pub rule: u32,
+    pub subject: u32,
+    pub key: u32,
+    pub has_limit: bool,
+}
+
+/// An amount in 64 bits: the most that they hold, where it is more; 0 where there is none.
+fn in_word(amount: Option<u128>) -> u64
+    ensures { result ≡ telling.in_word amount }
+{
+    match amount {
+        Some(amount) => amount.min(u128::from(u64::MAX)) as u64,
+        None => 0,
+    }
+}
+
+/// What a header allowed, for C.
+pub fn allowance_for_c(allowance: &Allowance) -> ToldAllowance
+    ensures { result ≡ telling.told_allowance allowance.now }
+{
+    let row = &allowance.row;
+    ToldAllowance {
+        count: row.count,
+        first: row.first,
+        last: row.last,
+        greatest: in_word(row.greatest),
+        limit: in_word(allowance.limit),
+        rule: rule_number(row.rule),
+        subject: rule_subject(row.rule),
+        key: key_subject(allowance.key),
+        has_limit: allowance.limit.is_some(),
     }
 }

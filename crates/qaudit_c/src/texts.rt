@@ -1,10 +1,11 @@
-//! Texts for C: they go to the front of its buffer, where they fit.
+//! Texts and lists for C: they go to the front of its buffer, where they fit.
 ghost use Rattle.std.specs.Prelude.{◌≡◌, ◌≢◌, length, string_bytes};
 ghost use Rattle.qa_format.specs.verdicts.Report as text;
 ghost use Rattle.qaudit_c.specs.Calls.{Tells};
 ghost use Rattle.qaudit_c.specs.Numbers as numbers;
 
 use crate::numbers::{fault_of, key_of, rule_of};
+use crate::telling::ToldAllowance;
 use qa_check::{Verdict, report, verdict_line};
 use std::alloc::Global;
 
@@ -17,6 +18,17 @@ pub fn put_text(bytes: &[u8], out: &mut [u8]) -> usize
         out[..bytes.len()].copy_from_slice(bytes);
     }
     bytes.len()
+}
+
+/// Puts the items at the front of `out`, where they fit, and returns how many they are.
+pub fn put_allowances(items: &[ToldAllowance], out: &mut [ToldAllowance]) -> usize
+    ensures length { length out.new ≡ length out.old }
+    ensures told { Tells result out.old out.new items.now }
+{
+    if items.len() <= out.len() {
+        out[..items.len()].copy_from_slice(items);
+    }
+    items.len()
 }
 
 /// Puts the report of a verdict; 0 where it is out of memory.

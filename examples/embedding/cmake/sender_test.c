@@ -1,5 +1,5 @@
 /* A test of a small sender: sender_test TRACE. It writes what the sender did to the file TRACE, and
- * ends with status 1 at the first violation of RFC 9002. */
+ * ends with status 1 at the first violation of RFC 9002, with the reason. */
 #include "qaudit.h"
 
 #include <inttypes.h>
@@ -19,10 +19,10 @@ struct audit {
 };
 
 static void refused(struct audit *audit) {
-    uint8_t text[400] = {0};
-    size_t count = qaudit_first_line(&audit->q, text, sizeof text);
-    fprintf(stderr, "%.*s", (int)count, (const char *)text);
-    fprintf(stderr, "for the reason run: qaudit-why %s\n", audit->name);
+    static uint8_t text[16384];
+    size_t count = qaudit_around(&audit->q, 3, text, sizeof text);
+    if (count <= sizeof text) fwrite(text, 1, count, stderr);
+    fprintf(stderr, "the trace is %s\n", audit->name);
     exit(1); /* which writes the rest of the trace */
 }
 
@@ -42,7 +42,7 @@ static void start(struct audit *audit, const char *name) {
     audit->q = (qaudit){0};
     audit->name = name;
     audit->trace = fopen(name, "w");
-    if (audit->trace == NULL || qaudit_open(&audit->q) != QAUDIT_OPEN) {
+    if (audit->trace == NULL || qaudit_open_recorded(&audit->q) != QAUDIT_OPEN) {
         perror(name);
         exit(1);
     }

@@ -9,7 +9,8 @@ import (
 	"qaudit"
 )
 
-// audit is an audit inside a test, which fails at the first violation of RFC 9002, and the trace of what was judged.
+// audit is an audit inside a test, which fails at the first violation of RFC 9002 with the reason, and the trace of what
+// was judged.
 type audit struct {
 	*testing.T
 	auditor *qaudit.Auditor
@@ -17,7 +18,7 @@ type audit struct {
 }
 
 func newAudit(t *testing.T) *audit {
-	auditor, err := qaudit.New(nil)
+	auditor, err := qaudit.NewRecorded(nil)
 	if err != nil {
 		t.Fatal(err)
 	}
@@ -62,7 +63,7 @@ func (a *audit) fail(err error) {
 	if err != nil {
 		a.Fatal(err)
 	}
-	a.Fatalf("%s\nfor the reason run: qaudit-why %s", a.auditor.FirstLine(), a.trace.Name())
+	a.Fatalf("%sthe trace is %s", a.auditor.Around(3), a.trace.Name())
 }
 
 func (a *audit) onPacketSent(time, number uint64) {

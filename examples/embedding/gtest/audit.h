@@ -1,5 +1,5 @@
-// An audit inside a gtest, in C++17. A test fails at the first violation of RFC 9002, and the trace
-// of what the sender did is in a file for qaudit-why.
+// An audit inside a gtest, in C++17. A test fails at the first violation of RFC 9002, with the reason,
+// and the trace of what the sender did is in a file.
 #ifndef AUDIT_H
 #define AUDIT_H
 
@@ -9,12 +9,13 @@
 #include <filesystem>
 #include <fstream>
 #include <string>
+#include <vector>
 
 class Audit {
 public:
     // The trace has the name of the test, and is in the folder in which the test runs.
     explicit Audit(const std::string &header) : name_(test_name() + ".trace"), trace_(name_) {
-        EXPECT_EQ(qaudit_open(&q_), QAUDIT_OPEN);
+        EXPECT_EQ(qaudit_open_recorded(&q_), QAUDIT_OPEN);
         line(header);
     }
     // Losses that were not declared show only at the end.
@@ -39,13 +40,19 @@ private:
         const auto *info = testing::UnitTest::GetInstance()->current_test_info();
         return std::string(info->test_suite_name()) + '.' + info->name();
     }
+    std::string why() {
+        std::vector<uint8_t> text(4096);
+        size_t count = qaudit_around(&q_, 3, text.data(), text.size());
+        if (count > text.size()) {
+            text.resize(count);
+            count = qaudit_around(&q_, 3, text.data(), text.size());
+        }
+        return std::string(text.begin(), text.begin() + static_cast<std::ptrdiff_t>(count));
+    }
     void check(bool is_good) {
         if (is_good || has_failed_) return;
         has_failed_ = true;
-        uint8_t text[400];
-        const size_t count = qaudit_first_line(&q_, text, sizeof text);
-        ADD_FAILURE() << std::string(text, text + count) << "for the reason run: qaudit-why "
-                      << std::filesystem::absolute(name_).string();
+        ADD_FAILURE() << why() << "the trace is " << std::filesystem::absolute(name_).string();
     }
 
     std::string name_;

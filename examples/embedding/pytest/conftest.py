@@ -1,4 +1,4 @@
-"""An audit inside a test, which fails at the first violation of RFC 9002."""
+"""An audit inside a test, which fails at the first violation of RFC 9002, with the reason."""
 
 import json
 from collections.abc import Iterator
@@ -10,16 +10,16 @@ from qaudit import Auditor, Progress
 
 
 class Audit:
-    """Judges what a sender does, and keeps the trace in a file for qaudit-why."""
+    """Judges what a sender does, and keeps the trace in a file."""
 
     def __init__(self, path: Path) -> None:
         self.path = path
-        self.auditor = Auditor()
+        self.auditor = Auditor(recorded=True)
 
     def line(self, event: str, **keys: Any) -> None:
         """Judges a line of the trace, and keeps it."""
         __tracebackhide__ = True
-        text = json.dumps({"event": event, **keys}) + "\n"
+        text = json.dumps({"event": event, **keys}, separators=(",", ":")) + "\n"
         with self.path.open("a") as trace:
             trace.write(text)
         if self.auditor.feed(text.encode()) is not Progress.OPEN:
@@ -32,10 +32,9 @@ class Audit:
             self.fail()
 
     def fail(self) -> None:
-        """Fails the test, with the verdict."""
+        """Fails the test, with the reason."""
         __tracebackhide__ = True
-        first = self.auditor.first_line()
-        pytest.fail(f"{first}\nfor the reason run: qaudit-why {self.path}")
+        pytest.fail(f"{self.auditor.around(3)}the trace is {self.path}")
 
 
 @pytest.fixture

@@ -15,7 +15,7 @@ use Rattle.qa_base.specs.machine.Packets.{is_below_largest, is_discarded, is_of,
 use Rattle.qa_base.specs.machine.Rtt.{loss_delay}
 use Rattle.qa_base.specs.machine.Violations.{IsToleratedRun}
 use Rattle.qa_base.specs.machine.Timer.{Due, awaits_loss, deadline, earlier, earliest_loss, loss_due}
-use Rattle.qa_base.specs.values.Settings.{Settings, early, granularity, per_microsecond}
+use Rattle.qa_base.specs.values.Settings.{Settings, early, per_microsecond}
 use Rattle.qa_base.proofs.machine.RunLaws.{form_holds}
 use Rattle.qa_base.proofs.history.Changes.{not_owed_now}
 use Rattle.qa_base.proofs.history.ToleratedRuns.{is_space_is}
@@ -46,7 +46,7 @@ mapped s delay (Some sent) = refl
 pub old_at_is : (c : Settings) (h : List Event) (time : ℕ) (s : Space) → IsToleratedRun c (Timer time Loss s ∷ h) → option_map (λ (d : Due). d.time) (loss_due c h s) ≡ old_at c (rtt c h) h s
 old_at_is c h time s run =
     let holds = form_holds c h (Timer time Loss s) run.1 in
-    let delay = loss_delay (granularity c) (rtt c h) in
+    let delay = loss_delay c (rtt c h) in
     mapped s delay (least_of (map (λ p. p.time) (filter (awaits_loss c h) (packets_of h s))))
     ∙ ap (λ ps. option_map (λ sent. sent + delay) (least_of (map (λ p. p.time) ps))) (same_part (awaits_loss c h) (awaits_timer h) (packets_of h s) (same_awaits c (Timer time Loss s) h s holds.loss_owed (timer_there c h time s run)))
 
@@ -55,7 +55,7 @@ space_mapped s delay None due is = cc
 space_mapped s delay (Some sent) due is = let same : record { kind = Loss; space = s; time = sent + delay } ≡ due = cc in ap (λ (d : Due). d.space) (sym same)
 
 in_its_space : (c : Settings) (h : List Event) (s : Space) (due : Due) → loss_due c h s ≡ Some due → loss_due c h due.space ≡ Some due
-in_its_space c h s due is = subst (λ (t : Space). loss_due c h t ≡ Some due) (sym (space_mapped s (loss_delay (granularity c) (rtt c h)) _ due is)) is
+in_its_space c h s due is = subst (λ (t : Space). loss_due c h t ≡ Some due) (sym (space_mapped s (loss_delay c (rtt c h)) _ due is)) is
 
 -- the earliest loss time is that of its space
 pub earliest_of_space : (c : Settings) (h : List Event) (due : Due) → earliest_loss c h ≡ Some due → loss_due c h due.space ≡ Some due

@@ -9,7 +9,7 @@ use Rattle.qa_base.specs.declared.space.Space.{Space}
 use Rattle.qa_base.specs.machine.Breaches.{numbers}
 use Rattle.qa_base.specs.values.Events.{is_space, is_named, acknowledges, declares_lost}
 use Rattle.qa_base.specs.machine.Estimates.{sampled}
-use Rattle.qa_base.specs.machine.Detection.{is_at, is_found, is_left, is_old, is_unsettled, may_be_spared}
+use Rattle.qa_base.specs.machine.Detection.{is_at, is_far_below, is_found, is_left, is_old, is_unsettled, may_be_spared}
 use Rattle.qa_base.specs.machine.Loss.{owed, is_owed, is_free, nameable, is_nameable, is_open, detection}
 use Rattle.qa_base.specs.machine.Numbers.{is_in, has_all}
 use Rattle.qa_base.specs.history.Declared.{is_named_free}
@@ -111,10 +111,10 @@ spared_by true false far old is = cc
 spared_by false may far old is = refl
 
 -- what may be spared is past no threshold
-pub spared_is_young : (c : Settings) (r : Estimate) (now : ℕ) (most : Option ℕ) (p : Packet) → may_be_spared c r now most p ≡ true → is_past_threshold c r now most p ≡ false
-spared_is_young c r now None p is = refl
-spared_is_young c r now (Some m) p is =
-    spared_by (nat_lt p.number m) (is_may c.options.loss_by_number) (nat_le c.options.packet_threshold (m - p.number)) (is_old c r now p) is
+pub spared_is_young : (c : Settings) (r : Estimate) (h : List Event) (now : ℕ) (most : Option ℕ) (p : Packet) → may_be_spared c r h now most p ≡ true → is_past_threshold c r h now most p ≡ false
+spared_is_young c r h now None p is = refl
+spared_is_young c r h now (Some m) p is =
+    spared_by (nat_lt p.number m) (is_may c.options.loss_by_number) (is_far_below c h m p) (is_old c r now p) is
 
 -- what is free is of the space of a detection, in flight, unsettled and not owed
 pub record IsLeft (c : Settings) (h : List Event) (p : Packet) : Type 0 where
@@ -122,21 +122,21 @@ pub record IsLeft (c : Settings) (h : List Event) (p : Packet) : Type 0 where
   pub at : ◌≡◌ {A = Option (Space × ℕ)} (detection c h) (Some (p.space, now))
   pub in_flight : p.in_flight ≡ true
   pub unsettled : is_unsettled h p ≡ true
-  pub spared : may_be_spared c (sampled c h) now (largest_acknowledged h p.space) p ≡ true
+  pub spared : may_be_spared c (sampled c h) h now (largest_acknowledged h p.space) p ≡ true
 
 left_by : (c : Settings) (h : List Event) (p : Packet) (d : Option (Space × ℕ)) → detection c h ≡ d → is_at (is_left c (sampled c h) h) p d ≡ true → IsLeft c h p
 left_by c h p None at is = cc
 left_by c h p (Some (s, now)) at is =
     let parts = and_parts (is_of s p) (is_left c (sampled c h) h now s p) is in
     let of_s : s ≡ p.space = is_space_is s p.space parts.0 in
-    let more = and_parts (p.in_flight && is_unsettled h p) (may_be_spared c (sampled c h) now (largest_acknowledged h s) p) parts.1 in
+    let more = and_parts (p.in_flight && is_unsettled h p) (may_be_spared c (sampled c h) h now (largest_acknowledged h s) p) parts.1 in
     let flies = and_parts p.in_flight (is_unsettled h p) more.0 in
     record {
       now = now;
       at = at ∙ ap (λ (t : Space). Some (t, now)) of_s;
       in_flight = flies.0;
       unsettled = flies.1;
-      spared = subst (λ (t : Space). may_be_spared c (sampled c h) now (largest_acknowledged h t) p ≡ true) of_s more.1;
+      spared = subst (λ (t : Space). may_be_spared c (sampled c h) h now (largest_acknowledged h t) p ≡ true) of_s more.1;
     }
 
 pub free_is_left : (c : Settings) (h : List Event) (p : Packet) → is_free c h p ≡ true → IsLeft c h p
@@ -144,9 +144,9 @@ free_is_left c h p is = left_by c h p (detection c h) refl is
 
 left_not_found : (c : Settings) (h : List Event) (p : Packet) (left : IsLeft c h p) → is_at (is_found c (sampled c h) h) p (Some (p.space, left.now)) ≡ false
 left_not_found c h p left =
-    let young = spared_is_young c (sampled c h) left.now (largest_acknowledged h p.space) p left.spared in
+    let young = spared_is_young c (sampled c h) h left.now (largest_acknowledged h p.space) p left.spared in
     and_right (is_of p.space p) (is_found c (sampled c h) h left.now p.space p)
-    (and_right (p.in_flight && is_unsettled h p) (is_past_threshold c (sampled c h) left.now (largest_acknowledged h p.space) p) young)
+    (and_right (p.in_flight && is_unsettled h p) (is_past_threshold c (sampled c h) h left.now (largest_acknowledged h p.space) p) young)
 
 pub free_not_owed : (c : Settings) (h : List Event) (p : Packet) → is_free c h p ≡ true → is_owed c h p ≡ false
 free_not_owed c h p is =
@@ -202,7 +202,7 @@ found_was_flying : (c : Settings) (e : Event) (h : List Event) → IsToleratedRu
 found_was_flying c e h run p has None at is = cc
 found_was_flying c e h run p has (Some (s, now)) at is =
     let parts = and_parts (is_of s p) (is_found c (sampled c (e ∷ h)) (e ∷ h) now s p) is in
-    let more = and_parts (p.in_flight && is_unsettled (e ∷ h) p) (is_past_threshold c (sampled c (e ∷ h)) now (largest_acknowledged (e ∷ h) s) p) parts.1 in
+    let more = and_parts (p.in_flight && is_unsettled (e ∷ h) p) (is_past_threshold c (sampled c (e ∷ h)) (e ∷ h) now (largest_acknowledged (e ∷ h) s) p) parts.1 in
     asked_was_flying c e h run s now at p has (and_from (is_of s p) (p.in_flight && is_unsettled (e ∷ h) p) parts.0 more.0)
 
 -- in a tolerated run whatever an event finds lost was open and in flight
@@ -229,5 +229,5 @@ pub found_unsettled : (c : Settings) (h : List Event) (p : Packet) (d : Option (
 found_unsettled c h p None is = cc
 found_unsettled c h p (Some (s, now)) is =
     let parts = and_parts (is_of s p) (is_found c (sampled c h) h now s p) is in
-    let more = and_parts (p.in_flight && is_unsettled h p) (is_past_threshold c (sampled c h) now (largest_acknowledged h s) p) parts.1 in
+    let more = and_parts (p.in_flight && is_unsettled h p) (is_past_threshold c (sampled c h) h now (largest_acknowledged h s) p) parts.1 in
     (and_parts p.in_flight (is_unsettled h p) more.0).1

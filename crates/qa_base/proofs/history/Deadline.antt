@@ -14,7 +14,7 @@ use Rattle.qa_base.specs.history.Oldest.{is_flying, due_of, NoneFlies}
 use Rattle.qa_base.specs.history.Sequence.{EachTwo}
 use Rattle.qa_base.specs.machine.Packets.{Packet, packets, packets_of, is_of, largest_acknowledged, least_of, is_below_largest}
 use Rattle.qa_base.specs.machine.Violations.{IsToleratedRun}
-use Rattle.qa_base.specs.values.Settings.{Settings, granularity}
+use Rattle.qa_base.specs.values.Settings.{Settings}
 use Rattle.qa_base.specs.machine.Rtt.{loss_delay}
 use Rattle.qa_base.specs.machine.Timer.{Due, loss_due, awaits_loss}
 use Rattle.qa_base.proofs.history.ToleratedRuns.{IsEarlier, are_of, in_order_of, is_space_is}
@@ -98,9 +98,9 @@ timed true due sent = refl
 timed false due sent = refl
 
 due_if : (c : Settings) (h : List Event) (s : Space) (o : Option Packet)
-    → option_map (λ sent. record { kind = Loss; space = s; time = sent + loss_delay (granularity c) (rtt c h) }) (time_of_first (largest_acknowledged h s) o) ≡ due_of c h s o
+    → option_map (λ sent. record { kind = Loss; space = s; time = sent + loss_delay c (rtt c h) }) (time_of_first (largest_acknowledged h s) o) ≡ due_of c h s o
 due_if c h s None = refl
-due_if c h s (Some p) = timed (is_below_largest p.number (largest_acknowledged h s)) (λ sent. record { kind = Loss; space = s; time = sent + loss_delay (granularity c) (rtt c h) }) p.time
+due_if c h s (Some p) = timed (is_below_largest p.number (largest_acknowledged h s)) (λ sent. record { kind = Loss; space = s; time = sent + loss_delay c (rtt c h) }) p.time
 
 awaits_of : (c : Settings) (h : List Event) (s : Space) (ps : List Packet) → AreOf s ps
     → AllByRecursion (λ p. awaits_loss c h p ≡ (is_flying c h p && is_below_largest p.number (largest_acknowledged h s))) ps
@@ -112,7 +112,7 @@ pub loss_due_is : (c : Settings) (h : List Event) → IsToleratedRun c h → (s 
 loss_due_is c h run s =
     let ps = packets_of h s in
     let largest = largest_acknowledged h s in
-    let due_at : ℕ → Due = λ sent. record { kind = Loss; space = s; time = sent + loss_delay (granularity c) (rtt c h) } in
+    let due_at : ℕ → Due = λ sent. record { kind = Loss; space = s; time = sent + loss_delay c (rtt c h) } in
     ap (λ qs. option_map due_at (least_of (map (λ p. p.time) qs))) (same_part (awaits_loss c h) (λ p. is_flying c h p && is_below_largest p.number largest) ps (awaits_of c h s ps (are_of h s)))
     ∙ (ap (option_map due_at) (least_is (is_flying c h) largest ps (in_order_of c h s run)) ∙ due_if c h s (oldest_flying c h s))
 

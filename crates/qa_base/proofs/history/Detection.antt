@@ -38,9 +38,9 @@ abbrev pub asked : List Event → Space → List Packet
 asked h s = filter (is_asked h s) (reverse (packets h))
 
 found_of_asked : (c : Settings) (h : List Event) (now : ℕ) (s : Space)
-    → filter (is_found c (sampled c h) h now s) (packets_of h s) ≡ filter (is_past_threshold c (sampled c h) now (largest_acknowledged h s)) (filter (is_asked h s) (packets h))
+    → filter (is_found c (sampled c h) h now s) (packets_of h s) ≡ filter (is_past_threshold c (sampled c h) h now (largest_acknowledged h s)) (filter (is_asked h s) (packets h))
 found_of_asked c h now s =
-    let late = is_past_threshold c (sampled c h) now (largest_acknowledged h s) in
+    let late = is_past_threshold c (sampled c h) h now (largest_acknowledged h s) in
     let open_here : Packet → Bool = λ p. p.in_flight && is_unsettled h p in
     part_of_part open_here late (packets_of h s) ∙ ap (filter late) (sym (part_of_part (is_of s) open_here (packets h)))
 
@@ -48,22 +48,22 @@ asked_is : (h : List Event) (s : Space) → asked h s ≡ reverse (filter (λ p.
 asked_is h s = part_turned (is_asked h s) (packets h) ∙ ap reverse (part_of_part (is_of s) (λ p. p.in_flight && is_unsettled h p) (packets h))
 
 late_first : (c : Settings) (h : List Event) (r : Estimate) (now : ℕ) (largest : Option ℕ) (s : Space) → IsToleratedRun c h
-    → EachTwo (λ p q. is_past_threshold c r now largest q ≡ true → is_past_threshold c r now largest p ≡ true) (asked h s)
+    → EachTwo (λ p q. is_past_threshold c r h now largest q ≡ true → is_past_threshold c r h now largest p ≡ true) (asked h s)
 late_first c h r now largest s run =
     let open_here : Packet → Bool = λ p. p.in_flight && is_unsettled h p in
-    let R : Packet → Packet → Type 0 = λ p q. is_past_threshold c r now largest q ≡ true → is_past_threshold c r now largest p ≡ true in
+    let R : Packet → Packet → Type 0 = λ p q. is_past_threshold c r h now largest q ≡ true → is_past_threshold c r h now largest p ≡ true in
     let two : EachTwo (λ p q. IsEarlier q p) (reverse (filter open_here (packets_of h s))) =
     two_turned IsEarlier (filter open_here (packets_of h s)) (two_of_part IsEarlier open_here (packets_of h s) (in_order_of c h s run)) in
     let all : EachTwo R (reverse (filter open_here (packets_of h s))) =
-    two_weaker (λ p q. IsEarlier q p) R (λ p q before late. earlier_is_past_threshold c r now largest q p (omega (arith, before.number)) before.time late) (reverse (filter open_here (packets_of h s))) two in
+    two_weaker (λ p q. IsEarlier q p) R (λ p q before late. earlier_is_past_threshold c r h now largest q p before.space (omega (arith, before.number)) before.time late) (reverse (filter open_here (packets_of h s))) two in
     subst (λ (ps : List Packet). EachTwo R ps) (sym (asked_is h s)) all
 
 -- in a tolerated run, where the last event looks for losses in a space at a time, what it finds is, in the order of sending,
 -- the packets asked of up to the first that is not late
 pub owed_is_front : (c : Settings) (h : List Event) → IsToleratedRun c h → (s : Space) (now : ℕ) → detection c h ≡ Some (s, now)
-    → reverse (owed c h) ≡ take_while (is_past_threshold c (sampled c h) now (largest_acknowledged h s)) (asked h s)
+    → reverse (owed c h) ≡ take_while (is_past_threshold c (sampled c h) h now (largest_acknowledged h s)) (asked h s)
 owed_is_front c h run s now at =
-    let late = is_past_threshold c (sampled c h) now (largest_acknowledged h s) in
+    let late = is_past_threshold c (sampled c h) h now (largest_acknowledged h s) in
     ap (λ d. reverse (all_at (is_found c (sampled c h) h) h d)) at
     ∙ (ap reverse (found_of_asked c h now s)
     ∙ (sym (part_turned late (filter (is_asked h s) (packets h)))

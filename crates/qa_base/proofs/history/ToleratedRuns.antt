@@ -107,6 +107,7 @@ same_number c h run p q has_p has_q same number = elim (two_of WasSentBefore (pa
 
 -- q was sent before p, of its space
 pub record IsEarlier (p q : Packet) : Type 0 where
+  pub space : p.space ≡ q.space
   pub place : q.place < p.place
   pub time : q.time ≤ p.time
   pub number : q.number < p.number
@@ -118,7 +119,7 @@ earlier_than : (s : Space) (p : Packet) (ps : List Packet) → is_of s p ≡ tru
 earlier_than s p [] of_p of before = tt
 earlier_than s p (q ∷ ps) of_p of before =
     let same : is_of p.space q ≡ true = rw (← is_space_is s p.space of_p) of.0 in
-    (record { place = before.0.place; time = before.0.time; number = before.0.number same }, earlier_than s p ps of_p of.1 before.1)
+    (record { space = is_space_is p.space q.space same; place = before.0.place; time = before.0.time; number = before.0.number same }, earlier_than s p ps of_p of.1 before.1)
 
 pub each_earlier : (s : Space) (ps : List Packet) → AreOf s ps → EachTwo WasSentBefore ps → EachTwo IsEarlier ps
 each_earlier s [] of two = tt

@@ -47,9 +47,9 @@ same_packets c _ h d at = refl
 -- in a tolerated run, where no packet of a front is of the space, open and in flight before the event, the walk may begin behind that front
 pub owed_of_rest : (c : Settings) (e : Event) (h : List Event) → IsToleratedRun c (e ∷ h) → (s : Space) (now : ℕ) → detection c (e ∷ h) ≡ Some (s, now)
     → (front rest : List Packet) → reverse (packets h) ≡ front ++ rest → NoneFlies c h s front
-    → reverse (owed c (e ∷ h)) ≡ take_while (is_past_threshold c (sampled c (e ∷ h)) now (largest_acknowledged (e ∷ h) s)) (filter (is_asked (e ∷ h) s) rest)
+    → reverse (owed c (e ∷ h)) ≡ take_while (is_past_threshold c (sampled c (e ∷ h)) (e ∷ h) now (largest_acknowledged (e ∷ h) s)) (filter (is_asked (e ∷ h) s) rest)
 owed_of_rest c e h run s now at front rest parts none =
-    let late = is_past_threshold c (sampled c (e ∷ h)) now (largest_acknowledged (e ∷ h) s) in
+    let late = is_past_threshold c (sampled c (e ∷ h)) (e ∷ h) now (largest_acknowledged (e ∷ h) s) in
     let all : reverse (packets (e ∷ h)) ≡ front ++ rest = ap reverse (same_packets c e h (s, now) at) ∙ parts in
     owed_is_front c (e ∷ h) run s now at
     ∙ ap (take_while late) (asked_of_rest e h s front rest all (none_asked c e h run s now at front rest parts none))
@@ -72,10 +72,10 @@ not_discarded c _ h s d at = refl
 
 -- in a tolerated run, after a detection in a space, a packet of it is open and in flight that was asked of and is not late
 pub flies_after : (c : Settings) (e : Event) (h : List Event) → IsToleratedRun c (e ∷ h) → (s : Space) (now : ℕ) → detection c (e ∷ h) ≡ Some (s, now)
-    → (p : Packet) → is_of s p ≡ true → is_flying c (e ∷ h) p ≡ (is_asked (e ∷ h) s p && not (is_past_threshold c (sampled c (e ∷ h)) now (largest_acknowledged (e ∷ h) s) p))
+    → (p : Packet) → is_of s p ≡ true → is_flying c (e ∷ h) p ≡ (is_asked (e ∷ h) s p && not (is_past_threshold c (sampled c (e ∷ h)) (e ∷ h) now (largest_acknowledged (e ∷ h) s) p))
 flies_after c e h run s now at p of_space =
     let g = e ∷ h in
-    let late = is_past_threshold c (sampled c g) now (largest_acknowledged g s) p in
+    let late = is_past_threshold c (sampled c g) g now (largest_acknowledged g s) p in
     let found : is_owed c g p ≡ (p.in_flight && is_unsettled g p && late) =
     ap (is_at (is_found c (sampled c g) g) p) at ∙ ap (λ b. b && is_found c (sampled c g) g now s p) of_space in
     let there : is_discarded g p.space ≡ false = subst (λ (t : Space). is_discarded g t ≡ false) (is_space_is s p.space of_space)

@@ -3,14 +3,13 @@ use Rattle.std.proofs.Common.{◌≡◌, ◌∙◌, List, [], ◌∷◌, Bool, t
 use Rattle.std.specs.List.{list_any}
 use Rattle.std.specs.Prelude.{nat_lt, if◌then◌else◌}
 use Rattle.qa_base.specs.declared.event.Event.{Event}
-use Rattle.qa_base.specs.declared.event.Event.TheVariants.{Sent, Ack, Lost, Timer, Discard, Confirmed, Keys, Metrics}
+use Rattle.qa_base.specs.declared.event.Event.TheVariants.{Lost}
 use Rattle.qa_base.specs.declared.space.Space.{Space}
-use Rattle.qa_base.specs.declared.space.TimerKind.TheVariants.{Loss, Pto}
-use Rattle.qa_base.specs.machine.Detection.{all_at, declared_by, detection_by, free_by, is_at, is_completed_by, is_found, is_free_by, is_left, is_old, is_owed_by, is_past_threshold, is_persistent_by, is_taken_by, is_unsettled, may_be_spared, owed_by}
-use Rattle.qa_base.specs.machine.Estimates.{refreshed_by, rtt, sampled}
+use Rattle.qa_base.specs.machine.Detection.{all_at, declared_by, detection_by, free_by, is_at, is_completed_by, is_found, is_free_by, is_left, is_old, is_owed_by, is_unsettled, may_be_spared, owed_by}
+use Rattle.qa_base.specs.machine.Estimates.{sampled}
 use Rattle.qa_base.specs.machine.Loss.{declared, free, is_free, is_nameable, is_owed, nameable, owed}
 use Rattle.qa_base.specs.machine.Packets.{Packet, packets, is_of, largest_acknowledged}
-use Rattle.qa_base.specs.machine.Rtt.{Estimate, refreshed}
+use Rattle.qa_base.specs.machine.Rtt.{Estimate}
 use Rattle.qa_base.specs.values.Events.{declares_lost}
 use Rattle.qa_base.specs.values.Settings.{Settings, is_may}
 
@@ -53,68 +52,6 @@ owed_is c h = owed_by_is c (sampled c h) h
 pub free_is : (c : Settings) (h : List Event) → free c h ≡ filter (is_free c h) (packets h)
 free_is c h = free_by_is c (sampled c h) h
 
--- ---- the estimate after a refresh tells the same
-
-past_refreshed : (c : Settings) (r : Estimate) (now : ℕ) (largest : Option ℕ) (p : Packet)
-    → is_past_threshold c (refreshed r) now largest p ≡ is_past_threshold c r now largest p
-past_refreshed c r now None p = refl
-past_refreshed c r now (Some largest) p = refl
-
-spared_refreshed : (c : Settings) (r : Estimate) (now : ℕ) (largest : Option ℕ) (p : Packet)
-    → may_be_spared c (refreshed r) now largest p ≡ may_be_spared c r now largest p
-spared_refreshed c r now None p = refl
-spared_refreshed c r now (Some largest) p = refl
-
-found_refreshed : (c : Settings) (r : Estimate) (h : List Event) (p : Packet) (d : Option (Space × ℕ)) → is_at (is_found c (refreshed r) h) p d ≡ is_at (is_found c r h) p d
-found_refreshed c r h p None = refl
-found_refreshed c r h p (Some d) =
-    ap (λ (b : Bool). is_of d.0 p && (p.in_flight && is_unsettled h p && b)) (past_refreshed c r d.1 (largest_acknowledged h d.0) p)
-
-left_refreshed : (c : Settings) (r : Estimate) (h : List Event) (p : Packet) (d : Option (Space × ℕ)) → is_at (is_left c (refreshed r) h) p d ≡ is_at (is_left c r h) p d
-left_refreshed c r h p None = refl
-left_refreshed c r h p (Some d) =
-    ap (λ (b : Bool). is_of d.0 p && (p.in_flight && is_unsettled h p && b)) (spared_refreshed c r d.1 (largest_acknowledged h d.0) p)
-
-detection_refreshed : (c : Settings) (r : Estimate) (h : List Event) → detection_by c (refreshed r) h ≡ detection_by c r h
-detection_refreshed c r [] = refl
-detection_refreshed c r (Sent packet ∷ h) = refl
-detection_refreshed c r (Ack ack ∷ h) = refl
-detection_refreshed c r (Lost time space ranges ∷ h) = refl
-detection_refreshed c r (Timer time Loss space ∷ h) = refl
-detection_refreshed c r (Timer time Pto space ∷ h) = refl
-detection_refreshed c r (Discard time space ∷ h) = refl
-detection_refreshed c r (Confirmed time ∷ h) = refl
-detection_refreshed c r (Keys time ∷ h) = refl
-detection_refreshed c r (Metrics time values ∷ h) = refl
-
-owed_refreshed : (c : Settings) (r : Estimate) (h : List Event) (p : Packet) → is_owed_by c (refreshed r) h p ≡ is_owed_by c r h p
-owed_refreshed c r h p =
-    ap (is_at (is_found c (refreshed r) h) p) (detection_refreshed c r h) ∙ found_refreshed c r h p (detection_by c r h)
-
-free_refreshed : (c : Settings) (r : Estimate) (h : List Event) (p : Packet) → is_free_by c (refreshed r) h p ≡ is_free_by c r h p
-free_refreshed c r h p =
-    ap (is_at (is_left c (refreshed r) h) p) (detection_refreshed c r h) ∙ left_refreshed c r h p (detection_by c r h)
-
--- what tells the same of an estimate and a refreshed one tells the same of a refresh that comes or not
-if_refreshed : {X : Type 0} (tell : Estimate → X) (b : Bool) (r : Estimate) → tell (refreshed r) ≡ tell r → tell (if b then refreshed r else r) ≡ tell r
-if_refreshed tell true r same = same
-if_refreshed tell false r same = refl
-
-either : {X : Type 0} (tell : Estimate → X) (asked : Bool) (c : Settings) (h : List Event) (r : Estimate) → tell (refreshed r) ≡ tell r → tell (refreshed_by asked c h r) ≡ tell r
-either tell false c h r same = refl
-either tell true c h r same = if_refreshed tell (is_persistent_by c r h) r same
-
-either_after : {X : Type 0} (tell : Estimate → X) (c : Settings) (h : List Event) → tell (refreshed (sampled c h)) ≡ tell (sampled c h) → tell (rtt c h) ≡ tell (sampled c h)
-either_after tell c [] same = refl
-either_after tell c (e ∷ h) same = either tell c.options.refresh_min_rtt c (e ∷ h) (sampled c (e ∷ h)) same
-
--- by the estimate after a refresh the same is owed and free
-pub owed_by_rtt : (c : Settings) (h : List Event) (p : Packet) → is_owed_by c (rtt c h) h p ≡ is_owed c h p
-owed_by_rtt c h p = either_after (λ r. is_owed_by c r h p) c h (owed_refreshed c (sampled c h) h p)
-
-pub free_by_rtt : (c : Settings) (h : List Event) (p : Packet) → is_free_by c (rtt c h) h p ≡ is_free c h p
-free_by_rtt c h p = either_after (λ r. is_free_by c r h p) c h (free_refreshed c (sampled c h) h p)
-
 -- ---- what a Lost line takes
 
 -- a packet that is owed after the history, or that is free and that the event names
@@ -142,25 +79,17 @@ pub same_any : (f g : Packet → Bool) (ps : List Packet) → ((p : Packet) → 
 same_any f g [] same = refl
 same_any f g (p ∷ ps) same = rw (same p, same_any f g ps same) refl
 
-completed_by_is : (c : Settings) (h : List Event) (e : Event) → is_completed_by c (rtt c h) h e ≡ is_completed c h e
+completed_by_is : (c : Settings) (h : List Event) (e : Event) → is_completed_by c (sampled c h) h e ≡ is_completed c h e
 completed_by_is c h e =
     let named : Packet → Bool = λ p. declares_lost p.space p.number e in
-    ap (list_any named) (free_by_is c (rtt c h) h)
-    ∙ (any_of_part named (is_free_by c (rtt c h) h) (packets h)
-    ∙ same_any (λ p. is_free_by c (rtt c h) h p && named p) (λ p. is_free c h p && named p) (packets h) (λ p. ap (λ (b : Bool). b && named p) (free_by_rtt c h p)))
-
-taken_by_is : (c : Settings) (h : List Event) (e : Event) (p : Packet) → is_taken_by c (rtt c h) h e p ≡ is_taken c h e p
-taken_by_is c h e p =
-    ap (λ (b : Bool). b || (is_free_by c (rtt c h) h p && declares_lost p.space p.number e)) (owed_by_rtt c h p)
-    ∙ ap (λ (b : Bool). is_owed c h p || (b && declares_lost p.space p.number e)) (free_by_rtt c h p)
+    ap (list_any named) (free_is c h) ∙ any_of_part named (is_free c h) (packets h)
 
 -- a Lost line takes what is owed and what it names of the free, where it names some of them, and else nothing
 pub declared_is : (c : Settings) (time : ℕ) (space : Space) (ranges : List (ℕ × ℕ)) (h : List Event)
     → (let e = Lost time space ranges in declared c (e ∷ h) ≡ (if is_completed c h e then filter (is_taken c h e) (packets h) else []))
 declared_is c time space ranges h =
     let e = Lost time space ranges in
-    ap (λ (b : Bool). if b then filter (is_taken_by c (rtt c h) h e) (packets h) else []) (completed_by_is c h e)
-    ∙ ap (λ (ps : List Packet). if is_completed c h e then ps else []) (same_filter (is_taken_by c (rtt c h) h e) (is_taken c h e) (packets h) (taken_by_is c h e))
+    ap (λ (b : Bool). if b then filter (is_taken c h e) (packets h) else []) (completed_by_is c h e)
 
 -- ---- where losses by number must be declared
 
@@ -178,14 +107,14 @@ none_of_three true true false = refl
 none_of_three true false c = refl
 none_of_three false b c = refl
 
-never_spared : (c : Settings) (r : Estimate) (now : ℕ) (largest : Option ℕ) (p : Packet) → is_may c.options.loss_by_number ≡ false → may_be_spared c r now largest p ≡ false
-never_spared c r now None p must = refl
-never_spared c r now (Some largest) p must = rw must (none_of_both (nat_lt p.number largest) (not (is_old c r now p)))
+never_spared : (c : Settings) (r : Estimate) (h : List Event) (now : ℕ) (largest : Option ℕ) (p : Packet) → is_may c.options.loss_by_number ≡ false → may_be_spared c r h now largest p ≡ false
+never_spared c r h now None p must = refl
+never_spared c r h now (Some largest) p must = rw must (none_of_both (nat_lt p.number largest) (not (is_old c r now p)))
 
 never_left : (c : Settings) (r : Estimate) (h : List Event) (p : Packet) (d : Option (Space × ℕ)) → is_may c.options.loss_by_number ≡ false → is_at (is_left c r h) p d ≡ false
 never_left c r h p None must = refl
 never_left c r h p (Some d) must =
-    ap (λ (b : Bool). is_of d.0 p && (p.in_flight && is_unsettled h p && b)) (never_spared c r d.1 (largest_acknowledged h d.0) p must)
+    ap (λ (b : Bool). is_of d.0 p && (p.in_flight && is_unsettled h p && b)) (never_spared c r h d.1 (largest_acknowledged h d.0) p must)
     ∙ none_of_three (is_of d.0 p) p.in_flight (is_unsettled h p)
 
 -- nothing is free, by whichever estimate

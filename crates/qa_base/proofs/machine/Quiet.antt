@@ -11,12 +11,12 @@ use Rattle.qa_base.specs.declared.event.Event.TheVariants.{Sent, Ack, Lost, Time
 use Rattle.qa_base.specs.declared.space.Space.{Space}
 use Rattle.qa_base.specs.values.Events.{is_quiet}
 use Rattle.qa_base.specs.machine.Detection.{all_at, declared_by, is_at, is_found, is_persistent_by}
-use Rattle.qa_base.specs.machine.Estimates.{refreshed_by, rtt, sampled}
+use Rattle.qa_base.specs.machine.Estimates.{rtt, sampled, with_sample_of}
 use Rattle.qa_base.specs.machine.Loss.{is_owed, owed, declared, flight_size, bytes_in_flight, detection}
 use Rattle.qa_base.specs.machine.Moments.{since}
 use Rattle.qa_base.specs.machine.Packets.{Packet, packets, newly_acknowledged, is_followed_by, is_discarded, is_of, is_acknowledged, is_declared_lost, packet_at}
 use Rattle.qa_base.specs.machine.Reno.{grows, is_app_limited, moves, moves_of_last}
-use Rattle.qa_base.specs.machine.Rtt.{Estimate}
+use Rattle.qa_base.specs.machine.Rtt.{Estimate, after_congestion}
 use Rattle.qa_base.specs.values.Settings.{Settings}
 use Rattle.qa_base.specs.machine.Timer.{is_pto, resets_count, pto_count}
 
@@ -39,35 +39,35 @@ owed-quiet c (Timer time kind space) h quiet = cc
 owed-quiet c (Discard time space) h quiet = cc
 owed-quiet c _ h quiet = refl
 
--- without persistent congestion nothing is refreshed
-pub not_refreshed : (refresh : Bool) (c : Settings) (h : List Event) (r : Estimate) → is_persistent_by c r h ≡ false → refreshed_by refresh c h r ≡ r
-not_refreshed true c h r none = rw none refl
-not_refreshed false c h r none = refl
+-- without persistent congestion the estimate stays
+pub no_congestion : (c : Settings) (r : Estimate) (b : Bool) → b ≡ false → after_congestion c b r ≡ r
+no_congestion c r b none = rw none refl
 
-pub sampled-quiet : (c : Settings) (e : Event) (h : List Event) → is_quiet e ≡ true → sampled c (e ∷ h) ≡ rtt c h
-sampled-quiet c (Ack ack) h quiet = cc
-sampled-quiet c (Timer time kind space) h quiet = cc
-sampled-quiet c (Discard time space) h quiet = cc
-sampled-quiet c _ h quiet = refl
+pub unsampled-quiet : (c : Settings) (e : Event) (h : List Event) (r : Estimate) → is_quiet e ≡ true → with_sample_of c (e ∷ h) r ≡ r
+unsampled-quiet c (Ack ack) h r quiet = cc
+unsampled-quiet c (Timer time kind space) h r quiet = cc
+unsampled-quiet c (Discard time space) h r quiet = cc
+unsampled-quiet c _ h r quiet = refl
 
 -- where nothing is lost by the last event it establishes no persistent congestion
 pub not_persistent : (r : Estimate) (c : Settings) (h : List Event) → declared_by c r h ≡ [] → is_persistent_by c r h ≡ false
 not_persistent r c h none = rw none refl
 
-unrefreshed : (c : Settings) (e : Event) (h : List Event) → sampled c (e ∷ h) ≡ rtt c h → declared c (e ∷ h) ≡ [] → rtt c (e ∷ h) ≡ rtt c h
-unrefreshed c e h same none =
-    not_refreshed c.options.refresh_min_rtt c (e ∷ h) (sampled c (e ∷ h)) (not_persistent (sampled c (e ∷ h)) c (e ∷ h) none) ∙ same
+-- then it leaves the estimate with its sample
+pub rtt_stays : (c : Settings) (e : Event) (h : List Event) → declared c (e ∷ h) ≡ [] → rtt c (e ∷ h) ≡ with_sample_of c (e ∷ h) (rtt c h)
+rtt_stays c e h none =
+    no_congestion c (with_sample_of c (e ∷ h) (rtt c h)) (is_persistent_by c (sampled c (e ∷ h)) (e ∷ h)) (not_persistent (sampled c (e ∷ h)) c (e ∷ h) none)
 
 -- a quiet event by which nothing is lost leaves the estimate as it was
 pub rtt-quiet : (c : Settings) (e : Event) (h : List Event) → is_quiet e ≡ true → declared c (e ∷ h) ≡ [] → rtt c (e ∷ h) ≡ rtt c h
-rtt-quiet c e h quiet none = unrefreshed c e h (sampled-quiet c e h quiet) none
+rtt-quiet c e h quiet none = rtt_stays c e h none ∙ unsampled-quiet c e h (rtt c h) quiet
 
-none_or : (limited : Bool) → (if limited then [] else grows []) ≡ []
-none_or true = refl
-none_or false = refl
+none_or : (c : Settings) (limited : Bool) → (if limited then [] else grows c []) ≡ []
+none_or c true = refl
+none_or c false = refl
 
 no_moves : (c : Settings) (e : Event) (h : List Event) → declared c (e ∷ h) ≡ [] → newly_acknowledged (e ∷ h) ≡ [] → moves_of_last c (e ∷ h) ≡ []
-no_moves c e h none unacknowledged = rw (none, unacknowledged) (none_or (is_app_limited e))
+no_moves c e h none unacknowledged = rw (none, unacknowledged) (none_or c (is_app_limited e))
 
 -- and the window
 pub moves_of_last-quiet : (c : Settings) (e : Event) (h : List Event) → is_quiet e ≡ true → declared c (e ∷ h) ≡ [] → moves_of_last c (e ∷ h) ≡ []

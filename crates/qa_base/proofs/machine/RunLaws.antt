@@ -206,20 +206,20 @@ newly_acknowledged_fall c e h tolerated_run = falls_in_part (is_newly_acknowledg
 
 -- ---- when a packet is old
 
-after_delay : (least m age : ℕ) → max ((9 * m + 7) / 8) least ≤ age → (9 * m ≤ 8 * age) × (least ≤ age)
-after_delay least m age waited = (omega arith, omega arith)
+after_delay : (least parts age : ℕ) → max ((parts + 7) / 8) least ≤ age → (parts ≤ 8 * age) × (least ≤ age)
+after_delay least parts age waited = (omega arith, omega arith)
 
-delay_after : (least m age : ℕ) → (9 * m ≤ 8 * age) × (least ≤ age) → max ((9 * m + 7) / 8) least ≤ age
-delay_after least m age (fraction, grain) = omega (arith, fraction, grain)
+delay_after : (least parts age : ℕ) → (parts ≤ 8 * age) × (least ≤ age) → max ((parts + 7) / 8) least ≤ age
+delay_after least parts age (fraction, grain) = omega (arith, fraction, grain)
 
 -- a packet is old exactly when the loss delay has passed since it was sent
-pub old_is_after_loss_delay : (c : Settings) (r : Estimate) (now : ℕ) (p : Packet) → (is_old c r now p ≡ true) ↔ (loss_delay (granularity c) r ≤ now - p.time)
-old_is_after_loss_delay c r now p = (leb-true (loss_delay (granularity c) r) (now - p.time), le-leb (loss_delay (granularity c) r) (now - p.time))
+pub old_is_after_loss_delay : (c : Settings) (r : Estimate) (now : ℕ) (p : Packet) → (is_old c r now p ≡ true) ↔ (loss_delay c r ≤ now - p.time)
+old_is_after_loss_delay c r now p = (leb-true (loss_delay c r) (now - p.time), le-leb (loss_delay c r) (now - p.time))
 
 -- rounding up changes nothing: so many parts of the RTT have passed, and the granularity
 pub old_is_exact : (c : Settings) (r : Estimate) (now : ℕ) (p : Packet)
-    → (is_old c r now p ≡ true) ↔ ((9 * max r.latest_rtt r.smoothed_rtt ≤ 8 * (now - p.time)) × (granularity c ≤ now - p.time))
+    → (is_old c r now p ≡ true) ↔ ((c.options.time_threshold_eighths * max r.latest_rtt r.smoothed_rtt ≤ 8 * (now - p.time)) × (granularity c ≤ now - p.time))
 old_is_exact c r now p =
     let delay = old_is_after_loss_delay c r now p in
-    let m = max r.latest_rtt r.smoothed_rtt in
-    (λ old. after_delay (granularity c) m (now - p.time) (delay.0 old), λ exact. delay.1 (delay_after (granularity c) m (now - p.time) exact))
+    let parts = c.options.time_threshold_eighths * max r.latest_rtt r.smoothed_rtt in
+    (λ old. after_delay (granularity c) parts (now - p.time) (delay.0 old), λ exact. delay.1 (delay_after (granularity c) parts (now - p.time) exact))

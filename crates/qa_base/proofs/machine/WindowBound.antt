@@ -12,8 +12,8 @@ use Rattle.qa_base.specs.declared.event.Event.TheVariants.{Sent}
 use Rattle.qa_base.specs.machine.Packets.{Packet, packets, packet_of, is_acknowledged, is_declared_lost, is_newly_acknowledged, newly_acknowledged, history_of}
 use Rattle.qa_base.specs.values.Events.{acknowledges}
 use Rattle.qa_base.specs.machine.Loss.{declared, is_persistent, bytes_in_flight, flight_size, is_open}
-use Rattle.qa_base.specs.machine.Moments.{detection_of, last_time}
-use Rattle.qa_base.specs.machine.Reno.{Move, CongestionEvent, PersistentCongestion, Grow, Control, start, moved, moves, moves_of_last, reno, congestion_events, persistent_congestions, grows, is_app_limited, is_slow_start, is_outside_recovery, growth}
+use Rattle.qa_base.specs.machine.Moments.{detection_of}
+use Rattle.qa_base.specs.machine.Reno.{Move, CongestionEvent, PersistentCongestion, Grow, Control, start, moved, moves, moves_of_last, reno, congestion_events, event_mark, sent_mark, persistent_congestions, grows, is_app_limited, is_slow_start, is_outside_recovery, growth}
 use Rattle.qa_base.specs.values.Settings.{Settings, AreInRange}
 use Rattle.qa_base.specs.machine.Widths.{Fits, acknowledged_count}
 use Rattle.qa_base.proofs.machine.Histories.{length-history_of}
@@ -120,55 +120,55 @@ pub each_of_part : (P : Packet → Type 0) (kept : Packet → Bool) (ps : List P
 each_of_part P kept [] all = tt
 each_of_part P kept (p ∷ ps) all = each_if P p (filter kept ps) (kept p) all.0 (each_of_part P kept ps all.1)
 
-abbrev growing : Packet → Move
-growing p = Grow p.size p.time
+abbrev growing : Settings → Packet → Move
+growing c p = Grow p.size (sent_mark c p)
 
-small_turned : (ps : List Packet) → AllByRecursion IsSized ps → AllByRecursion IsSmall (map growing (reverse ps))
-small_turned [] all = tt
-small_turned (p ∷ ps) all =
+small_turned : (c : Settings) (ps : List Packet) → AllByRecursion IsSized ps → AllByRecursion IsSmall (map (growing c) (reverse ps))
+small_turned c [] all = tt
+small_turned c (p ∷ ps) all =
     let turned : reverse (p ∷ ps) ≡ reverse ps ++ p ∷ [] = reverse-append (p ∷ []) ps in
-    let mapped : map growing (reverse (p ∷ ps)) ≡ map growing (reverse ps) ++ growing p ∷ [] = ap (map growing) turned ∙ map-append growing (reverse ps) (p ∷ []) in
-    rw mapped (each_append IsSmall (map growing (reverse ps)) (growing p ∷ []) (small_turned ps all.1) (all.0, tt))
+    let mapped : map (growing c) (reverse (p ∷ ps)) ≡ map (growing c) (reverse ps) ++ growing c p ∷ [] = ap (map (growing c)) turned ∙ map-append (growing c) (reverse ps) (p ∷ []) in
+    rw mapped (each_append IsSmall (map (growing c) (reverse ps)) (growing c p ∷ []) (small_turned c ps all.1) (all.0, tt))
 
-weight_turned : (ps : List Packet) → sum_by weight (map growing (reverse ps)) ≡ 65527 * length ps
-weight_turned [] = refl
-weight_turned (p ∷ ps) =
+weight_turned : (c : Settings) (ps : List Packet) → sum_by weight (map (growing c) (reverse ps)) ≡ 65527 * length ps
+weight_turned c [] = refl
+weight_turned c (p ∷ ps) =
     let turned : reverse (p ∷ ps) ≡ reverse ps ++ p ∷ [] = reverse-append (p ∷ []) ps in
-    let mapped : map growing (reverse (p ∷ ps)) ≡ map growing (reverse ps) ++ growing p ∷ [] = ap (map growing) turned ∙ map-append growing (reverse ps) (p ∷ []) in
-    let parts : sum_by weight (map growing (reverse ps) ++ growing p ∷ []) ≡ sum_by weight (map growing (reverse ps)) + sum_by weight (growing p ∷ []) = sum_by-append weight (map growing (reverse ps)) (growing p ∷ []) in
-    let rest = weight_turned ps in
+    let mapped : map (growing c) (reverse (p ∷ ps)) ≡ map (growing c) (reverse ps) ++ growing c p ∷ [] = ap (map (growing c)) turned ∙ map-append (growing c) (reverse ps) (p ∷ []) in
+    let parts : sum_by weight (map (growing c) (reverse ps) ++ growing c p ∷ []) ≡ sum_by weight (map (growing c) (reverse ps)) + sum_by weight (growing c p ∷ []) = sum_by-append weight (map (growing c) (reverse ps)) (growing c p ∷ []) in
+    let rest = weight_turned c ps in
     ap (sum_by weight) mapped ∙ (parts ∙ (omega (arith, rest)))
 
 pub length_part : (kept : Packet → Bool) (ps : List Packet) → length (filter kept ps) ≤ length ps
 length_part kept ps = omega (arith, length-filter kept ps, count_by-le-length kept ps)
 
-small_hits : (now : ℕ) (ps : List Packet) → AllByRecursion IsSmall (congestion_events now ps) × (sum_by weight (congestion_events now ps) ≡ 0)
-small_hits now [] = (tt, refl)
-small_hits now (p ∷ ps) = ((tt, tt), refl)
+small_hits : (c : Settings) (now : ℕ) (ps : List Packet) → AllByRecursion IsSmall (congestion_events c now ps) × (sum_by weight (congestion_events c now ps) ≡ 0)
+small_hits c now [] = (tt, refl)
+small_hits c now (p ∷ ps) = ((tt, tt), refl)
 
 small_collapses : (b : Bool) → AllByRecursion IsSmall (persistent_congestions b) × (sum_by weight (persistent_congestions b) ≡ 0)
 small_collapses true = ((tt, tt), refl)
 small_collapses false = (tt, refl)
 
-small_grows : (app_limited : Bool) (ps : List Packet) → AllByRecursion IsSized ps
-    → AllByRecursion IsSmall (if app_limited then [] else grows ps) × (sum_by weight (if app_limited then [] else grows ps) ≤ 65527 * length ps)
-small_grows true ps all = (tt, (omega arith))
-small_grows false ps all =
+small_grows : (c : Settings) (app_limited : Bool) (ps : List Packet) → AllByRecursion IsSized ps
+    → AllByRecursion IsSmall (if app_limited then [] else grows c ps) × (sum_by weight (if app_limited then [] else grows c ps) ≤ 65527 * length ps)
+small_grows c true ps all = (tt, (omega arith))
+small_grows c false ps all =
     let kept = filter (λ (p : Packet). p.in_flight) ps in
-    let heavy : sum_by weight (grows ps) ≡ 65527 * length kept = weight_turned kept in
+    let heavy : sum_by weight (grows c ps) ≡ 65527 * length kept = weight_turned c kept in
     let fewer : length kept ≤ length ps = length_part (λ (p : Packet). p.in_flight) ps in
-    (small_turned kept (each_of_part IsSized (λ (p : Packet). p.in_flight) ps all), (omega (arith, heavy, fewer)))
+    (small_turned c kept (each_of_part IsSized (λ (p : Packet). p.in_flight) ps all), (omega (arith, heavy, fewer)))
 
 small_moves : (c : Settings) (e : Event) (h : List Event) → AllByRecursion IsSized (packets h)
     → AllByRecursion IsSmall (moves_of_last c (e ∷ h)) × (sum_by weight (moves_of_last c (e ∷ h)) ≤ 65527 * length (newly_acknowledged (e ∷ h)))
 small_moves c e h sized =
-    let xs = congestion_events (last_time (detection_of (e ∷ h))) (declared c (e ∷ h)) in
+    let xs = congestion_events c (event_mark c (detection_of (e ∷ h))) (declared c (e ∷ h)) in
     let ys = persistent_congestions (is_persistent c (e ∷ h)) in
     let new = newly_acknowledged (e ∷ h) in
-    let zs : List Move = if is_app_limited e then [] else grows new in
-    let a = small_hits (last_time (detection_of (e ∷ h))) (declared c (e ∷ h)) in
+    let zs : List Move = if is_app_limited e then [] else grows c new in
+    let a = small_hits c (event_mark c (detection_of (e ∷ h))) (declared c (e ∷ h)) in
     let b = small_collapses (is_persistent c (e ∷ h)) in
-    let g = small_grows (is_app_limited e) new (each_of_part IsSized (is_newly_acknowledged e h) (packets h) sized) in
+    let g = small_grows c (is_app_limited e) new (each_of_part IsSized (is_newly_acknowledged e h) (packets h) sized) in
     let sum : sum_by weight (moves_of_last c (e ∷ h)) ≡ sum_by weight (xs ++ ys) + sum_by weight zs = sum_by-append weight (xs ++ ys) zs in
     let sums : sum_by weight (xs ++ ys) ≡ sum_by weight xs + sum_by weight ys = sum_by-append weight xs ys in
     let x = a.1 in let y = b.1 in let z = g.1 in

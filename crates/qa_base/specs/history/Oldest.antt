@@ -10,7 +10,7 @@ use Rattle.qa_base.specs.machine.Estimates.{rtt}
 use Rattle.qa_base.specs.machine.Detection.{is_unsettled}
 use Rattle.qa_base.specs.machine.Loss.{is_open}
 use Rattle.qa_base.specs.machine.Packets.{Packet, is_of, largest_acknowledged, is_below_largest}
-use Rattle.qa_base.specs.values.Settings.{Settings, granularity}
+use Rattle.qa_base.specs.values.Settings.{Settings}
 use Rattle.qa_base.specs.machine.Rtt.{loss_delay}
 use Rattle.qa_base.specs.machine.Timer.{Due}
 
@@ -27,7 +27,7 @@ due_of c h s (Some p) =
     then Some (record {
       kind = Loss;
       space = s;
-      time = p.time + loss_delay (granularity c) (rtt c h);
+      time = p.time + loss_delay c (rtt c h);
     })
     else None
 

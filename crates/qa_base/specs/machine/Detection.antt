@@ -3,13 +3,15 @@
 --
 -- `c` are the settings of the header, `h` is the history.
 use Rattle.std.specs.Prelude.{ℕ, ◌+◌, ◌-◌, ◌&&◌, ◌||◌, not, nat_le, nat_lt, min, max, Bool, false}
-use Rattle.std.specs.Prelude.{List, [], ◌∷◌, filter, map, Option, Some, None, option_map}
+use Rattle.std.specs.Prelude.{List, [], ◌∷◌, count_by, filter, map, Option, Some, None, option_map}
 use Rattle.std.specs.Prelude.{if◌then◌else◌}
 use Rattle.std.specs.List.{list_any}
 use Rattle.qa_base.specs.declared.event.Event.{Event}
 use Rattle.qa_base.specs.declared.event.Event.TheVariants.{Ack, Lost, Timer}
 use Rattle.qa_base.specs.declared.space.TimerKind.TheVariants.{Loss}
 use Rattle.qa_base.specs.declared.space.Space.{Space}
+use Rattle.qa_base.specs.declared.space.ThresholdCounts.{ThresholdCounts}
+use Rattle.qa_base.specs.declared.space.ThresholdCounts.TheVariants.{Numbers, Packets}
 use Rattle.qa_base.specs.machine.Packets.{Packet, packets, packets_of, is_of, is_acknowledged}
 use Rattle.qa_base.specs.machine.Packets.{is_declared_lost, is_below_largest, acknowledges_new}
 use Rattle.qa_base.specs.machine.Packets.{largest_acknowledged, least_of}
@@ -21,25 +23,38 @@ use Rattle.qa_base.specs.values.Settings.{Settings, early, granularity, is_may}
 
 -- the loss delay has passed since it was sent (section 6.1.2)
 abbrev pub is_old : Settings → Estimate → ℕ → Packet → Bool
-is_old c r now p = nat_le (loss_delay (granularity c) r) (now - p.time)
+is_old c r now p = nat_le (loss_delay c r) (now - p.time)
+
+-- how many packets of the space were sent with a number above this one and up to another
+abbrev pub count_between : List Event → Space → ℕ → ℕ → ℕ
+count_between h s number largest =
+    count_by (λ p. nat_lt number p.number && nat_le p.number largest) (packets_of h s)
+
+-- how far a number of the space lies below the largest acknowledged one: by the numbers from it to
+-- that, as A.10 has it, or by the packets that were sent with them (section 6.1.1)
+abbrev pub distance_below : ThresholdCounts → List Event → Space → ℕ → ℕ → ℕ
+distance_below Numbers h s number largest = largest - number
+distance_below Packets h s number largest = count_between h s number largest
 
 -- below the largest acknowledged number by the sender's packet threshold (section 6.1.1)
-abbrev pub is_far_below : Settings → ℕ → Packet → Bool
-is_far_below c largest p = nat_le c.options.packet_threshold (largest - p.number)
+abbrev pub is_far_below : Settings → List Event → ℕ → Packet → Bool
+is_far_below c h largest p =
+    nat_le c.options.packet_threshold
+    (distance_below c.options.threshold_counts h p.space p.number largest)
 
 -- below the largest acknowledged number, for long enough or, where such packets must be lost, by
 -- the packet threshold
-abbrev pub is_past_threshold : Settings → Estimate → ℕ → Option ℕ → Packet → Bool
-is_past_threshold c r now None p = false
-is_past_threshold c r now (Some largest) p =
+abbrev pub is_past_threshold : Settings → Estimate → List Event → ℕ → Option ℕ → Packet → Bool
+is_past_threshold c r h now None p = false
+is_past_threshold c r h now (Some largest) p =
     nat_lt p.number largest
-    && ((not (is_may c.options.loss_by_number) && is_far_below c largest p) || is_old c r now p)
+    && ((not (is_may c.options.loss_by_number) && is_far_below c h largest p) || is_old c r now p)
 
 -- below it by the packet threshold, not for long enough, and such packets may be spared
-abbrev pub may_be_spared : Settings → Estimate → ℕ → Option ℕ → Packet → Bool
-may_be_spared c r now None p = false
-may_be_spared c r now (Some largest) p =
-    nat_lt p.number largest && (is_may c.options.loss_by_number && is_far_below c largest p)
+abbrev pub may_be_spared : Settings → Estimate → List Event → ℕ → Option ℕ → Packet → Bool
+may_be_spared c r h now None p = false
+may_be_spared c r h now (Some largest) p =
+    nat_lt p.number largest && (is_may c.options.loss_by_number && is_far_below c h largest p)
     && not (is_old c r now p)
 
 -- neither acknowledged nor declared lost
@@ -49,12 +64,12 @@ is_unsettled h p = not (is_acknowledged h p) && not (is_declared_lost h p)
 -- a detection in the packet's space, at a time, finds it lost
 abbrev pub is_found : Settings → Estimate → List Event → ℕ → Space → Packet → Bool
 is_found c r h now s p =
-    p.in_flight && is_unsettled h p && is_past_threshold c r now (largest_acknowledged h s) p
+    p.in_flight && is_unsettled h p && is_past_threshold c r h now (largest_acknowledged h s) p
 
 -- a detection in the packet's space, at a time, leaves it to the sender whether it is lost
 abbrev pub is_left : Settings → Estimate → List Event → ℕ → Space → Packet → Bool
 is_left c r h now s p =
-    p.in_flight && is_unsettled h p && may_be_spared c r now (largest_acknowledged h s) p
+    p.in_flight && is_unsettled h p && may_be_spared c r h now (largest_acknowledged h s) p
 
 -- ---- when losses are looked for
 
@@ -76,7 +91,7 @@ looks_at tolerance time (Some due) = max time (min due (time + tolerance))
 
 -- when the first packet of the space is old
 abbrev pub old_at : Settings → Estimate → List Event → Space → Option ℕ
-old_at c r h s = option_map (λ sent. sent + loss_delay (granularity c) r) (first_awaiting h s)
+old_at c r h s = option_map (λ sent. sent + loss_delay c r) (first_awaiting h s)
 
 -- where, and as of when, the last event looks for losses: an acknowledgment of something new, and a
 -- loss timer

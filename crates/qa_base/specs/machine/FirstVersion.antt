@@ -18,7 +18,7 @@ use Rattle.qa_base.specs.values.Settings.{Settings}
 -- the estimate by the samples of a history
 abbrev pub rtt_by_samples : Settings → List Event → Estimate
 rtt_by_samples c [] = start c.initial_rtt
-rtt_by_samples c (e ∷ before) = updated (rtt_by_samples c before) (sample_of c (e ∷ before))
+rtt_by_samples c (e ∷ before) = updated false (rtt_by_samples c before) (sample_of c (e ∷ before))
 
 -- a reported value is another than the machine's, which may be none
 abbrev pub is_another : Option ℕ → Option ℕ → Bool

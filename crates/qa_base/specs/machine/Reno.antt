@@ -2,7 +2,7 @@
 --
 -- `c` are the settings of the header, `h` is the history.
 use Rattle.std.specs.Prelude.{ℕ, ◌+◌, ◌*◌, ◌/◌, nat_lt, max, Bool, true, false, List, [], ◌∷◌, ◌++◌}
-use Rattle.std.specs.Prelude.{filter, fold, map, reverse, Option, Some, None, if◌then◌else◌}
+use Rattle.std.specs.Prelude.{filter, fold, length, map, reverse, Option, Some, None, if◌then◌else◌}
 use Rattle.qa_base.specs.declared.event.Event.{Event}
 use Rattle.qa_base.specs.declared.event.Event.TheVariants.{Ack}
 use Rattle.qa_base.specs.machine.Loss.{declared, is_persistent}
@@ -73,6 +73,17 @@ grow max_datagram_size size sent r =
     }
     else r
 
+-- ---- when packets are sent and recovery begins
+
+-- when a packet was sent, by which recovery is told: its time (B.5), or the place of its line where
+-- the header says that the order decides (section 7.3.2)
+abbrev pub sent_mark : Settings → Packet → ℕ
+sent_mark c p = if c.options.recovery_by_order then p.place else p.time
+
+-- when the last event happened, likewise
+abbrev pub event_mark : Settings → List Event → ℕ
+event_mark c h = if c.options.recovery_by_order then length (before_last h) else last_time h
+
 -- ---- the moves of a history
 
 pub data Move : Type 0 where
@@ -80,22 +91,23 @@ pub data Move : Type 0 where
   PersistentCongestion : Move
   Grow : (size sent : ℕ) → Move
 
-abbrev pub latest_sent : List Packet → ℕ
-latest_sent [] = 0
-latest_sent (p ∷ ps) = max p.time (latest_sent ps)
+abbrev pub latest_sent : Settings → List Packet → ℕ
+latest_sent c [] = 0
+latest_sent c (p ∷ ps) = max (sent_mark c p) (latest_sent c ps)
 
 -- packets lost by a detection at a time
-abbrev pub congestion_events : ℕ → List Packet → List Move
-congestion_events now [] = []
-congestion_events now (p ∷ ps) = CongestionEvent (latest_sent (p ∷ ps)) now ∷ []
+abbrev pub congestion_events : Settings → ℕ → List Packet → List Move
+congestion_events c now [] = []
+congestion_events c now (p ∷ ps) = CongestionEvent (latest_sent c (p ∷ ps)) now ∷ []
 
 abbrev pub persistent_congestions : Bool → List Move
 persistent_congestions true = PersistentCongestion ∷ []
 persistent_congestions false = []
 
 -- a move for each in-flight packet that is newly acknowledged, in the order of sending
-abbrev pub grows : List Packet → List Move
-grows new = map (λ p. Grow p.size p.time) (reverse (filter (λ p. p.in_flight) new))
+abbrev pub grows : Settings → List Packet → List Move
+grows c new =
+    map (λ p. Grow p.size (sent_mark c p)) (reverse (filter (λ p. p.in_flight) new))
 
 -- the sender did not use the window that it had (section 7.8)
 abbrev pub is_app_limited : Event → Bool
@@ -106,9 +118,9 @@ is_app_limited _ = false
 abbrev pub moves_of_last : Settings → List Event → List Move
 moves_of_last c [] = []
 moves_of_last c (e ∷ before) =
-    congestion_events (last_time (detection_of (e ∷ before))) (declared c (e ∷ before))
+    congestion_events c (event_mark c (detection_of (e ∷ before))) (declared c (e ∷ before))
     ++ persistent_congestions (is_persistent c (e ∷ before))
-    ++ (if is_app_limited e then [] else grows (newly_acknowledged (e ∷ before)))
+    ++ (if is_app_limited e then [] else grows c (newly_acknowledged (e ∷ before)))
 
 abbrev pub moves : Settings → List Event → List Move
 moves c [] = []

@@ -8,9 +8,8 @@ use Rattle.qa_base.specs.declared.event.Event.{Event}
 use Rattle.qa_base.specs.declared.event.Event.TheVariants.{Ack}
 use Rattle.qa_base.specs.machine.Packets.{Packet, newly_acknowledged, greatest}
 use Rattle.qa_base.specs.machine.Handshake.{is_confirmed}
-use Rattle.qa_base.specs.values.Constants.{persistent_congestion_threshold, time_threshold_parts}
-use Rattle.qa_base.specs.values.Constants.{time_threshold_divisor}
-use Rattle.qa_base.specs.values.Settings.{Settings}
+use Rattle.qa_base.specs.values.Constants.{persistent_congestion_threshold, time_threshold_divisor}
+use Rattle.qa_base.specs.values.Settings.{Settings, granularity}
 
 -- ---- samples (RFC 9002, section 5.1)
 
@@ -83,31 +82,33 @@ abbrev pub adjusted : ℕ → ℕ → ℕ → ℕ
 adjusted min_rtt latest_rtt ack_delay =
     if nat_le (min_rtt + ack_delay) latest_rtt then latest_rtt - ack_delay else latest_rtt
 
--- a later sample: rttvar by the smoothed RTT before it
-abbrev pub next_sample : Estimate → ℕ → ℕ → Estimate
-next_sample r latest_rtt ack_delay =
+-- a later sample: rttvar by the smoothed RTT before it. Where a sender keeps samples less the
+-- delay, the latest RTT is the adjusted one
+abbrev pub next_sample : Bool → Estimate → ℕ → ℕ → Estimate
+next_sample less_delay r latest_rtt ack_delay =
     let min_rtt = min r.min_rtt latest_rtt in
     let adjusted_rtt = adjusted min_rtt latest_rtt ack_delay in
     record {
-      latest_rtt = latest_rtt;
+      latest_rtt = if less_delay then adjusted_rtt else latest_rtt;
       min_rtt = min_rtt;
       smoothed_rtt = (7 * r.smoothed_rtt + adjusted_rtt) / 8;
       rttvar = (3 * r.rttvar + distance r.smoothed_rtt adjusted_rtt) / 4;
       first_rtt_sample = r.first_rtt_sample;
     }
 
-abbrev pub with_sample_by : Option ℕ → Estimate → ℕ → ℕ → ℕ → Estimate
-with_sample_by None r latest_rtt ack_delay now = first_sample latest_rtt now
-with_sample_by (Some first) r latest_rtt ack_delay now = next_sample r latest_rtt ack_delay
+abbrev pub with_sample_by : Option ℕ → Bool → Estimate → ℕ → ℕ → ℕ → Estimate
+with_sample_by None less_delay r latest_rtt ack_delay now = first_sample latest_rtt now
+with_sample_by (Some first) less_delay r latest_rtt ack_delay now =
+    next_sample less_delay r latest_rtt ack_delay
 
 -- one sample more, the first or a later one
-abbrev pub with_sample : Estimate → ℕ → ℕ → ℕ → Estimate
-with_sample r latest_rtt ack_delay now =
-    with_sample_by r.first_rtt_sample r latest_rtt ack_delay now
+abbrev pub with_sample : Bool → Estimate → ℕ → ℕ → ℕ → Estimate
+with_sample less_delay r latest_rtt ack_delay now =
+    with_sample_by r.first_rtt_sample less_delay r latest_rtt ack_delay now
 
-abbrev pub updated : Estimate → Option Sample → Estimate
-updated r None = r
-updated r (Some s) = with_sample r s.latest_rtt s.ack_delay s.time
+abbrev pub updated : Bool → Estimate → Option Sample → Estimate
+updated less_delay r None = r
+updated less_delay r (Some s) = with_sample less_delay r s.latest_rtt s.ack_delay s.time
 
 -- min_rtt is the latest sample again (section 5.2)
 abbrev pub refreshed : Estimate → Estimate
@@ -119,18 +120,38 @@ refreshed r = record {
   first_rtt_sample = r.first_rtt_sample;
 }
 
+-- the estimate begins again: as before the first sample, but for latest_rtt (section 5.2)
+abbrev pub reset : ℕ → Estimate → Estimate
+reset initial_rtt r = record {
+  latest_rtt = r.latest_rtt;
+  min_rtt = 0;
+  smoothed_rtt = initial_rtt;
+  rttvar = initial_rtt / 2;
+  first_rtt_sample = None;
+}
+
+-- what persistent congestion does to the estimate, if the header asks for it: it is reset, or else
+-- min_rtt is refreshed (section 5.2)
+abbrev pub on_persistent_congestion : Settings → Estimate → Estimate
+on_persistent_congestion c r =
+    if c.options.reset_rtt then reset c.initial_rtt r else
+    (if c.options.refresh_min_rtt then refreshed r else r)
+
+abbrev pub after_congestion : Settings → Bool → Estimate → Estimate
+after_congestion c is_persistent r = if is_persistent then on_persistent_congestion c r else r
+
 -- ---- what is computed from it, with the granularity of timers
 
 -- n / d, rounded up
 abbrev pub divided_up : ℕ → ℕ → ℕ
 divided_up n d = (n + (d - 1)) / d
 
--- how long after it was sent a packet is old: the time threshold of the RTT, rounded up, and the
--- granularity at least (RFC 9002, section 6.1.2)
-abbrev pub loss_delay : ℕ → Estimate → ℕ
-loss_delay granularity r =
-    max (divided_up (time_threshold_parts * max r.latest_rtt r.smoothed_rtt) time_threshold_divisor)
-    granularity
+-- how long after it was sent a packet is old: the sender's time threshold of the RTT, rounded up,
+-- and the granularity at least (RFC 9002, section 6.1.2)
+abbrev pub loss_delay : Settings → Estimate → ℕ
+loss_delay c r =
+    let rtt = max r.latest_rtt r.smoothed_rtt in
+    max (divided_up (c.options.time_threshold_eighths * rtt) time_threshold_divisor) (granularity c)
 
 -- the probe timeout before the peer's delay and the backoff (RFC 9002, section 6.2.1)
 abbrev pub pto_base : ℕ → Estimate → ℕ

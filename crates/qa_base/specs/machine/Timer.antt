@@ -65,7 +65,7 @@ loss_due c h s =
     option_map (λ sent. record {
       kind = Loss;
       space = s;
-      time = sent + loss_delay (granularity c) (rtt c h);
+      time = sent + loss_delay c (rtt c h);
     })
     (least_of (map (λ p. p.time) (filter (awaits_loss c h) (packets_of h s))))
 

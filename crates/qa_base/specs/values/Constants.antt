@@ -9,10 +9,10 @@ use Rattle.std.specs.Prelude.{ℕ, ◌*◌}
 abbrev pub default_packet_threshold : ℕ
 default_packet_threshold = 3
 
--- kTimeThreshold is 9/8 of the RTT (section 6.1.2): so many parts, and into how many the RTT is
--- divided
-abbrev pub time_threshold_parts : ℕ
-time_threshold_parts = 9
+-- kTimeThreshold where a header names none is 9/8 of the RTT (section 6.1.2): so many parts, and
+-- into how many the RTT is divided
+abbrev pub default_time_threshold_eighths : ℕ
+default_time_threshold_eighths = 9
 
 abbrev pub time_threshold_divisor : ℕ
 time_threshold_divisor = 8

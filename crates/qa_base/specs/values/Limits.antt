@@ -40,6 +40,13 @@ min_packet_threshold = 3
 abbrev pub max_packet_threshold : ℕ
 max_packet_threshold = 65535
 
+-- the least time threshold in eighths of the RTT, which section 6.1.2 recommends, and the greatest
+abbrev pub min_time_threshold_eighths : ℕ
+min_time_threshold_eighths = 9
+
+abbrev pub max_time_threshold_eighths : ℕ
+max_time_threshold_eighths = 32
+
 -- the greatest initial window, 2^32 - 1 bytes
 abbrev pub max_initial_window : ℕ
 max_initial_window = 4294967295

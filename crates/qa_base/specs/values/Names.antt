@@ -21,6 +21,8 @@ use Rattle.qa_base.specs.declared.space.Controller.{Controller}
 use Rattle.qa_base.specs.declared.space.Controller.TheVariants.{NewReno, Reported}
 use Rattle.qa_base.specs.declared.space.LossByNumber.{LossByNumber}
 use Rattle.qa_base.specs.declared.space.LossByNumber.TheVariants.{Must, May}
+use Rattle.qa_base.specs.declared.space.ThresholdCounts.{ThresholdCounts}
+use Rattle.qa_base.specs.declared.space.ThresholdCounts.TheVariants.{Numbers, Packets}
 use Rattle.qa_base.specs.declared.space.TimerKind.{TimerKind}
 use Rattle.qa_base.specs.declared.space.TimerKind.TheVariants.{Loss, Pto}
 use Rattle.qa_base.specs.declared.space.Permission.{Permission}
@@ -56,6 +58,11 @@ key_name key.SampleElicitingOnly = codes "sample_eliciting_only"
 key_name key.PacketThreshold = codes "packet_threshold"
 key_name key.TimerEarlyUs = codes "timer_early_us"
 key_name key.LossByNumber = codes "loss_by_number"
+key_name key.ThresholdCounts = codes "threshold_counts"
+key_name key.ResetRtt = codes "reset_rtt"
+key_name key.LatestRttLessDelay = codes "latest_rtt_less_delay"
+key_name key.TimeThresholdEighths = codes "time_threshold_eighths"
+key_name key.RecoveryByOrder = codes "recovery_by_order"
 key_name key.Time = codes "time"
 key_name key.Space = codes "space"
 key_name key.Number = codes "number"
@@ -105,6 +112,10 @@ abbrev pub loss_by_number_name : LossByNumber → List ℕ
 loss_by_number_name Must = codes "must"
 loss_by_number_name May = codes "may"
 
+abbrev pub threshold_counts_name : ThresholdCounts → List ℕ
+threshold_counts_name Numbers = codes "numbers"
+threshold_counts_name Packets = codes "packets"
+
 abbrev pub space_name : Space → List ℕ
 space_name Initial = codes "initial"
 space_name Handshake = codes "handshake"
@@ -148,6 +159,9 @@ controller_named = named (with_names controller_name (NewReno ∷ Reported ∷ [
 
 abbrev pub loss_by_number_named : List ℕ → Option LossByNumber
 loss_by_number_named = named (with_names loss_by_number_name (Must ∷ May ∷ []))
+
+abbrev pub threshold_counts_named : List ℕ → Option ThresholdCounts
+threshold_counts_named = named (with_names threshold_counts_name (Numbers ∷ Packets ∷ []))
 
 abbrev pub space_named : List ℕ → Option Space
 space_named = named (with_names space_name (Initial ∷ Handshake ∷ App ∷ []))

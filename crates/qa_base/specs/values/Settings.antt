@@ -1,6 +1,6 @@
 -- What a header says.
 use Rattle.std.specs.Prelude.{◌≡◌, ℕ, ◌≤◌, ◌*◌, ◌==◌, ◌&&◌, ◌||◌, not, min, max, nat_lt, Bool, true}
-use Rattle.std.specs.Prelude.{false, List, [], ◌∷◌, Option, None, unwrap_or, Result, Ok, Err}
+use Rattle.std.specs.Prelude.{false, List, [], ◌∷◌, Option, Some, None, unwrap_or, Result, Ok, Err}
 use Rattle.std.specs.Prelude.{if◌then◌else◌}
 use Rattle.std.specs.Option.{ForSome}
 use Rattle.qa_base.specs.declared.key.Key.{Key}
@@ -13,11 +13,14 @@ use Rattle.qa_base.specs.declared.space.Controller.{Controller}
 use Rattle.qa_base.specs.declared.space.Controller.TheVariants.{NewReno, Reported}
 use Rattle.qa_base.specs.declared.space.LossByNumber.{LossByNumber}
 use Rattle.qa_base.specs.declared.space.LossByNumber.TheVariants.{Must, May}
+use Rattle.qa_base.specs.declared.space.ThresholdCounts.{ThresholdCounts}
+use Rattle.qa_base.specs.declared.space.ThresholdCounts.TheVariants.{Numbers, Packets}
 use Rattle.qa_base.specs.declared.space.Role.{Role}
 use Rattle.qa_base.specs.declared.space.TimeUnit.{TimeUnit}
 use Rattle.qa_base.specs.declared.space.TimeUnit.TheVariants.{Microseconds, Nanoseconds}
 use Rattle.qa_base.specs.values.Constants.{granularity_us, default_initial_rtt}
 use Rattle.qa_base.specs.values.Constants.{default_max_ack_delay, default_packet_threshold}
+use Rattle.qa_base.specs.values.Constants.{default_time_threshold_eighths}
 use Rattle.qa_base.specs.values.Constants.{initial_window_datagrams, initial_window_bytes}
 use Rattle.qa_base.specs.values.Constants.{minimum_window}
 use Rattle.qa_base.specs.values.Limits.{max_packet_size, min_datagram_size, max_max_ack_delay}
@@ -25,6 +28,7 @@ use Rattle.qa_base.specs.values.Limits.{max_initial_rtt, max_initial_window, max
 use Rattle.qa_base.specs.values.Limits.{max_report_slack_us, max_report_slack_bytes}
 use Rattle.qa_base.specs.values.Limits.{min_packet_threshold, max_packet_threshold}
 use Rattle.qa_base.specs.values.Limits.{max_timer_early_us}
+use Rattle.qa_base.specs.values.Limits.{min_time_threshold_eighths, max_time_threshold_eighths}
 
 -- ---- the unit of times
 
@@ -49,6 +53,11 @@ abbrev pub is_may : LossByNumber → Bool
 is_may Must = false
 is_may May = true
 
+-- packets are counted for the packet threshold, and not their numbers
+abbrev pub counts_packets : ThresholdCounts → Bool
+counts_packets Numbers = false
+counts_packets Packets = true
+
 -- what a header of version 1 asks: no limit, no refresh and no slack, and a sender as RFC 9002 has
 -- it
 abbrev pub no_options : Options
@@ -63,6 +72,11 @@ no_options = record {
   packet_threshold = default_packet_threshold;
   timer_early_us = 0;
   loss_by_number = Must;
+  threshold_counts = Numbers;
+  reset_rtt = false;
+  latest_rtt_less_delay = false;
+  time_threshold_eighths = default_time_threshold_eighths;
+  recovery_by_order = false;
 }
 
 -- version 2 can say these options
@@ -70,7 +84,9 @@ abbrev pub fit_version_two : Options → Bool
 fit_version_two o =
     not (is_reported o.controller) && not o.window_overshoot && not o.sample_eliciting_only
     && o.packet_threshold == default_packet_threshold && o.timer_early_us == 0
-    && not (is_may o.loss_by_number)
+    && not (is_may o.loss_by_number) && not (counts_packets o.threshold_counts)
+    && not o.reset_rtt && not o.latest_rtt_less_delay
+    && o.time_threshold_eighths == default_time_threshold_eighths && not o.recovery_by_order
 
 -- packets may be spared, and the window is not one that the sender reports
 abbrev pub spares_unreported : Options → Bool
@@ -104,6 +120,18 @@ granularity s = in_unit s.unit granularity_us
 abbrev pub early : Settings → ℕ
 early s = in_unit s.unit (min s.options.timer_early_us max_timer_early_us)
 
+-- each option is in its range
+pub record AreOptionsInRange (o : Options) : Type 0 where
+  pub late_high : ForSome o.timer_late (λ limit. limit ≤ max_timer_late)
+  pub slack_us_high : o.report_slack_us ≤ max_report_slack_us
+  pub slack_bytes_high : o.report_slack_bytes ≤ max_report_slack_bytes
+  pub threshold_low : min_packet_threshold ≤ o.packet_threshold
+  pub threshold_high : o.packet_threshold ≤ max_packet_threshold
+  pub early_high : o.timer_early_us ≤ max_timer_early_us
+  pub spared_reported : spares_unreported o ≡ false
+  pub eighths_low : min_time_threshold_eighths ≤ o.time_threshold_eighths
+  pub eighths_high : o.time_threshold_eighths ≤ max_time_threshold_eighths
+
 -- each value is in its range, and the header's version says it: no options in version 1
 pub record AreInRange (s : Settings) : Type 0 where
   pub datagram_low : min_datagram_size ≤ s.max_datagram_size
@@ -120,6 +148,8 @@ pub record AreInRange (s : Settings) : Type 0 where
   pub threshold_high : s.options.packet_threshold ≤ max_packet_threshold
   pub early_high : s.options.timer_early_us ≤ max_timer_early_us
   pub spared_reported : spares_unreported s.options ≡ false
+  pub eighths_low : min_time_threshold_eighths ≤ s.options.time_threshold_eighths
+  pub eighths_high : s.options.time_threshold_eighths ≤ max_time_threshold_eighths
   pub first_version : s.version ≡ One → s.options ≡ no_options
   pub said : IsSaidIn s.version s.unit s.options
 
@@ -132,6 +162,11 @@ default_window max_datagram_size =
 -- n is not from lo to hi
 abbrev pub is_outside : ℕ → ℕ → ℕ → Bool
 is_outside lo hi n = nat_lt n lo || nat_lt hi n
+
+-- the key of the first test that is so
+abbrev pub first_outside : List (Bool × Key) → Option Key
+first_outside [] = None
+first_outside (test ∷ tests) = if test.0 then Some test.1 else first_outside tests
 
 -- the settings, or the key of the first test that is so
 abbrev pub unless_outside : List (Bool × Key) → Settings → Result Settings RangeFault
@@ -194,6 +229,10 @@ options_outside o =
     ∷ (is_outside min_packet_threshold max_packet_threshold o.packet_threshold, key.PacketThreshold)
     ∷ (is_outside 0 max_timer_early_us o.timer_early_us, key.TimerEarlyUs)
     ∷ (spares_unreported o, key.LossByNumber)
+    ∷ (
+      is_outside min_time_threshold_eighths max_time_threshold_eighths o.time_threshold_eighths,
+      key.TimeThresholdEighths,
+    )
     ∷ []
 
 -- a header's values in this version with these options, or the key of the first option that is out

@@ -38,10 +38,11 @@ origin u words time =
     string_at (codes "counts_from") words ++ amount_at (codes "counts_from") (unit_name u) time
 
 -- a loss delay behind a packet (RFC 9002, section 6.1.2)
-unfoldable pub packet_delay : TimeUnit → ℕ → ℕ → ℕ → List Token
-packet_delay u number latest smoothed =
+unfoldable pub packet_delay : TimeUnit → ℕ → ℕ → ℕ → ℕ → List Token
+packet_delay u number latest smoothed eighths =
     number_at (codes "packet") number ++ amount_at (codes "latest_rtt") (unit_name u) latest
     ++ amount_at (codes "smoothed_rtt") (unit_name u) smoothed
+    ++ number_at (codes "time_threshold_eighths") eighths
 
 -- a probe timeout (section 6.2.1)
 unfoldable pub timeout : TimeUnit → ℕ → ℕ → ℕ → ℕ → List Token
@@ -52,8 +53,8 @@ timeout u smoothed rttvar peer_delay count =
     ++ number_at (codes "pto_count") count
 
 unfoldable pub some_basis : TimeUnit → Basis → List Token
-some_basis u (basis.Packet number sent latest smoothed) =
-    origin u (codes "packet") sent ++ packet_delay u number latest smoothed
+some_basis u (basis.Packet number sent latest smoothed eighths) =
+    origin u (codes "packet") sent ++ packet_delay u number latest smoothed eighths
 some_basis u (basis.Eliciting sent smoothed rttvar peer_delay count) =
     origin u (codes "ack-eliciting packet") sent ++ timeout u smoothed rttvar peer_delay count
 some_basis u (basis.Kept set smoothed rttvar count) =

@@ -7,7 +7,7 @@ use Rattle.qa_base.specs.values.Names.{unit_name}
 use Rattle.qa_ledger.specs.declared.causes.cause.Cause.{Cause}
 use Rattle.qa_ledger.specs.declared.causes.cause.Cause.TheVariants as cause
 use Rattle.qa_explain.specs.members.Deadlines.{due_facts, early_facts, late_facts}
-use Rattle.qa_explain.specs.members.Losses.{differing, nameable, owed, space_at}
+use Rattle.qa_explain.specs.members.Losses.{counted, differing, nameable, owed, space_at}
 use Rattle.qa_explain.specs.members.Object.{some_amount_at}
 use Rattle.qa_explain.specs.members.Reports.{collapse_facts, metric_facts}
 use Rattle.qa_explain.specs.members.Sending.{packet_number_at, probe_facts, recovery_facts}
@@ -19,8 +19,9 @@ before u time = some_amount_at (codes "before") (unit_name u) time
 unfoldable pub facts : TimeUnit → Event → Cause → List Token
 facts u e (cause.TimeBack time) = before u time
 facts u e (cause.LossOwed o) = owed o
-facts u e (cause.LossNotOwed o f) = nameable o f
-facts u e (cause.LossSet o f unnamed unowed) = nameable o f ++ differing unnamed unowed
+facts u e (cause.LossNotOwed o f k) = nameable o f ++ counted (codes "unowed_counted") k
+facts u e (cause.LossSet o f unnamed unowed k) =
+    nameable o f ++ differing unnamed unowed ++ counted (codes "unowed_counted") k
 facts u e cause.SpaceGone = []
 facts u e (cause.NumberNotHigher greatest) = packet_number_at (codes "greatest_sent") greatest
 facts u e (cause.PastWindow in_flight window overshoot) = window_facts in_flight window overshoot

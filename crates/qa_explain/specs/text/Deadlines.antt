@@ -18,18 +18,23 @@ due_time (Some due) = due.time
 -- the greater of the two RTTs, by its name
 abbrev pub greater_rtt : ℕ → ℕ → List ℕ
 greater_rtt latest smoothed =
-    if nat_lt latest smoothed then numbered (codes " (9/8 of smoothed_rtt ") smoothed else numbered
-    (codes " (9/8 of latest_rtt ") latest
+    if nat_lt latest smoothed then numbered (codes "/8 of smoothed_rtt ") smoothed else numbered
+    (codes "/8 of latest_rtt ") latest
 
--- a loss delay: 9/8 of the RTT, rounded up, or else the granularity of timers, which is more (RFC
--- 9002, section 6.1.2)
-abbrev pub delay_words : ℕ → ℕ → ℕ → List ℕ
-delay_words delay latest smoothed =
-    if nat_le delay ((9 * max latest smoothed + 7) / 8) then greater_rtt latest smoothed
-    else codes " (kGranularity"
+-- so many eighths of it
+abbrev pub part_of_rtt : ℕ → ℕ → ℕ → List ℕ
+part_of_rtt eighths latest smoothed = numbered (codes " (") eighths ++ greater_rtt latest smoothed
 
-unfoldable pub delay_text : ℕ → ℕ → ℕ → List ℕ
-delay_text delay latest smoothed = delay_words delay latest smoothed ++ codes ")\n"
+-- a loss delay: the time threshold of the RTT, rounded up, or else the granularity of timers, which
+-- is more (RFC 9002, section 6.1.2)
+abbrev pub delay_words : ℕ → ℕ → ℕ → ℕ → List ℕ
+delay_words delay eighths latest smoothed =
+    if nat_le delay ((eighths * max latest smoothed + 7) / 8)
+    then part_of_rtt eighths latest smoothed else codes " (kGranularity"
+
+unfoldable pub delay_text : ℕ → ℕ → ℕ → ℕ → List ℕ
+delay_text delay eighths latest smoothed =
+    delay_words delay eighths latest smoothed ++ codes ")\n"
 
 -- a probe timeout (section 6.2.1)
 unfoldable pub timeout_text : ℕ → ℕ → ℕ → ℕ → List ℕ
@@ -55,8 +60,8 @@ kept_sum set delay = numbered (codes " = ") set ++ numbered (codes " (the timer 
 
 -- what a deadline in a space is the sum of: a time, and how long after it
 abbrev pub sum_text : ℕ → List ℕ → Basis → List ℕ
-sum_text time space (basis.Packet number sent latest smoothed) =
-    packet_sum sent number space (time - sent) ++ delay_text (time - sent) latest smoothed
+sum_text time space (basis.Packet number sent latest smoothed eighths) =
+    packet_sum sent number space (time - sent) ++ delay_text (time - sent) eighths latest smoothed
 sum_text time space (basis.Eliciting sent smoothed rttvar peer_delay count) =
     eliciting_sum sent space (time - sent) ++ timeout_text smoothed rttvar peer_delay count
 sum_text time space (basis.Kept set smoothed rttvar count) =

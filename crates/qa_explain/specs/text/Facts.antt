@@ -5,16 +5,16 @@ use Rattle.qa_ledger.specs.declared.causes.cause.Cause.{Cause}
 use Rattle.qa_ledger.specs.declared.causes.cause.Cause.TheVariants as cause
 use Rattle.qa_explain.specs.text.Deadlines.{early_text, late_text, set_text}
 use Rattle.qa_explain.specs.text.Reports.{collapse_text, metrics_text}
-use Rattle.qa_explain.specs.text.Runs.{differing_text, nameable_text, owed_text}
+use Rattle.qa_explain.specs.text.Runs.{counted_text, differing_text, nameable_text, owed_text}
 use Rattle.qa_explain.specs.text.Sending.{due_probe_text, greatest_text, probe_text, recovery_text}
 use Rattle.qa_explain.specs.text.Sending.{unsent_text, window_text}
 
 unfoldable pub facts_text : Event → Cause → List ℕ
 facts_text e (cause.TimeBack before) = []
 facts_text e (cause.LossOwed o) = owed_text o
-facts_text e (cause.LossNotOwed o f) = nameable_text o f
-facts_text e (cause.LossSet o f unnamed unowed) =
-    nameable_text o f ++ differing_text unnamed unowed
+facts_text e (cause.LossNotOwed o f k) = nameable_text o f ++ counted_text k
+facts_text e (cause.LossSet o f unnamed unowed k) =
+    nameable_text o f ++ differing_text unnamed unowed ++ counted_text k
 facts_text e cause.SpaceGone = []
 facts_text e (cause.NumberNotHigher greatest) = greatest_text e greatest
 facts_text e (cause.PastWindow in_flight window overshoot) =

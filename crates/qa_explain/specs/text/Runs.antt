@@ -3,6 +3,7 @@ use Rattle.std.specs.Prelude.{ℕ, nat_lt, ◌==◌, ◌-◌, codes, decimal, le
 use Rattle.std.specs.Prelude.{◌++◌, Option, Some, None, if◌then◌else◌}
 use Rattle.qa_base.specs.declared.space.Space.{Space}
 use Rattle.qa_base.specs.values.Names.{space_name}
+use Rattle.qa_ledger.specs.declared.causes.cause.Counted.{Counted}
 use Rattle.qa_ledger.specs.declared.causes.cause.Free.{Free}
 use Rattle.qa_ledger.specs.declared.causes.cause.Owed.{Owed}
 use Rattle.qa_explain.specs.text.Pieces.{named}
@@ -44,9 +45,26 @@ abbrev pub owed_in_text : Option Space → List (ℕ × ℕ) → List ℕ
 owed_in_text None runs = codes "  nothing is owed\n"
 owed_in_text (Some s) runs = named (codes "  owed: ") (space_name s) ++ runs_line [] runs
 
+-- how far a packet lies below the largest acknowledged one, by the packets that were sent
+unfoldable pub counted_numbers : Counted → List ℕ
+counted_numbers k =
+    codes "  packets sent after " ++ decimal k.number ++ codes ", up to " ++ decimal k.largest
+
+unfoldable pub counted_amounts : Counted → List ℕ
+counted_amounts k =
+    codes ": " ++ (decimal k.packets ++ (codes " (packet_threshold " ++ decimal k.threshold))
+
+unfoldable pub some_counted_text : Counted → List ℕ
+some_counted_text k = counted_numbers k ++ counted_amounts k ++ codes ")\n"
+
+-- where that is told
+abbrev pub counted_text : Option Counted → List ℕ
+counted_text None = []
+counted_text (Some k) = some_counted_text k
+
 -- what is owed as lost
 unfoldable pub owed_text : Owed → List ℕ
-owed_text o = owed_in_text o.space o.numbers
+owed_text o = owed_in_text o.space o.numbers ++ counted_text o.counted
 
 -- the same of what is free
 unfoldable pub free_runs_text : List ℕ → List (ℕ × ℕ) → List ℕ

@@ -14,7 +14,7 @@ value_source field.Ssthresh =
 value_source field.BytesInFlight =
     codes "  RFC 9002, 6.2, B.2: packets are in flight until they are acknowledged, declared lost or discarded; a timeout takes none out.\n"
 value_source field.LatestRtt =
-    codes "  RFC 9002, 5.1: the time from when the largest packet of the ACK was sent to the ACK, with no delay taken off.\n"
+    codes "  RFC 9002, 5.1: the time from when the largest packet of the ACK was sent to the ACK, with no delay taken off, unless latest_rtt_less_delay says so.\n"
 value_source field.MinRtt =
     codes "  RFC 9002, 5.2: the least latest_rtt, with no delay taken off.\n"
 value_source field.SmoothedRtt =

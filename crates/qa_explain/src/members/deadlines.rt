@@ -49,21 +49,30 @@ fn push_origin(out: &mut Object, unit: TimeUnit, words: &str, time: u64) -> Resu
     out.amount("counts_from", unit.name(), u128::from(time))
 }
 
-/// A loss delay behind a packet (RFC 9002, section 6.1.2).
-#[tactic(auto, unfolding(crate::specs::members::Deadlines::packet_delay))]
-fn push_packet_delay(
-    out: &mut Object,
-    unit: TimeUnit,
+/// What makes a loss delay behind a packet (RFC 9002, section 6.1.2), times in the unit of the
+/// trace.
+#[derive(Clone, Copy)]
+struct PacketDelay {
+    /// The packet's number.
     number: u64,
+    /// The latest RTT.
     latest_rtt: u64,
+    /// The smoothed RTT.
     smoothed_rtt: u64,
-) -> Result<(), AllocError>
+    /// The time threshold, in eighths of the RTT.
+    eighths: u64,
+}
+
+#[tactic(auto, unfolding(crate::specs::members::Deadlines::packet_delay))]
+fn push_packet_delay(out: &mut Object, unit: TimeUnit, delay: PacketDelay) -> Result<(), AllocError>
     ensures { OnOk result (out.new
-        ≡ out.old ++ text.packet_delay unit number latest_rtt smoothed_rtt) }
+        ≡ out.old ++ text.packet_delay unit delay.number delay.latest_rtt delay.smoothed_rtt
+        delay.eighths) }
 {
-    out.number("packet", u128::from(number))?;
-    out.amount("latest_rtt", unit.name(), u128::from(latest_rtt))?;
-    out.amount("smoothed_rtt", unit.name(), u128::from(smoothed_rtt))
+    out.number("packet", u128::from(delay.number))?;
+    out.amount("latest_rtt", unit.name(), u128::from(delay.latest_rtt))?;
+    out.amount("smoothed_rtt", unit.name(), u128::from(delay.smoothed_rtt))?;
+    out.number("time_threshold_eighths", u128::from(delay.eighths))
 }
 
 /// What makes a probe timeout (RFC 9002, section 6.2.1), times in the unit of the trace.
@@ -105,9 +114,16 @@ fn push_some_basis(out: &mut Object, unit: TimeUnit, basis: Basis) -> Result<(),
             sent,
             latest_rtt,
             smoothed_rtt,
+            eighths,
         } => {
             push_origin(out, unit, "packet", sent.get())?;
-            push_packet_delay(out, unit, number.get(), latest_rtt, smoothed_rtt)
+            let delay = PacketDelay {
+                number: number.get(),
+                latest_rtt,
+                smoothed_rtt,
+                eighths,
+            };
+            push_packet_delay(out, unit, delay)
         }
         Basis::Eliciting {
             sent,

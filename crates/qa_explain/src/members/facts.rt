@@ -3,7 +3,7 @@ ghost use Rattle.std.specs.Prelude.{◌≡◌, ◌++◌, OnOk};
 ghost use Rattle.qa_explain.specs.members.Facts as text;
 
 use crate::members::deadlines::{Deadline, SetTimer, push_due, push_early, push_late};
-use crate::members::losses::{push_nameable, push_other_set, push_owed, push_space};
+use crate::members::losses::{push_counted, push_differing, push_nameable, push_owed, push_space};
 use crate::members::object::Object;
 use crate::members::reports::{push_collapse, push_metrics};
 use crate::members::sending::{push_packet_number, push_probe, push_recovery, push_window};
@@ -38,13 +38,25 @@ pub fn push_facts(
         Cause::SpaceGone | Cause::TimerNotSet | Cause::NotConfirmed => Ok(()),
         Cause::TimeBack { before } => push_before(out, unit, *before),
         Cause::LossOwed { owed } | Cause::OwedAtEnd { owed } => push_owed(out, owed),
-        Cause::LossNotOwed { owed, free } => push_nameable(out, owed, free),
+        Cause::LossNotOwed {
+            owed,
+            free,
+            counted,
+        } => {
+            push_nameable(out, owed, free)?;
+            push_counted(out, "unowed_counted", *counted)
+        }
         Cause::LossSet {
             owed,
             free,
             unnamed,
             unowed,
-        } => push_other_set(out, owed, free, unnamed, unowed),
+            counted,
+        } => {
+            push_nameable(out, owed, free)?;
+            push_differing(out, unnamed, unowed)?;
+            push_counted(out, "unowed_counted", *counted)
+        }
         Cause::NumberNotHigher { greatest } => push_packet_number(out, "greatest_sent", *greatest),
         Cause::PastWindow {
             in_flight,

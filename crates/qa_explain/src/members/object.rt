@@ -1,5 +1,5 @@
 //! A JSON object, written a member behind another.
-ghost use Rattle.std.specs.Prelude.{◌≡◌, ◌++◌, [], ◌∷◌, IfOk, OnOk, decimal};
+ghost use Rattle.std.specs.Prelude.{◌≡◌, ◌++◌, [], ◌∷◌, IfOk, OnOk, decimal, string_bytes};
 ghost use Rattle.json.specs.Print.{IsPrintable};
 ghost use Rattle.json.specs.Reads.{token_of};
 ghost use Rattle.json.specs.Token as tokens;
@@ -219,6 +219,14 @@ impl Object {
     {
         self.end_object()?;
         Ok(self.into_bytes())
+    }
+
+    /// The text as it stands, with no brace behind it, as a string.
+    pub fn into_string(self) -> Result<String, AllocError>
+        ensures { IfOk result (λ string. string_bytes string ≡ text.text_of_all self) }
+    {
+        let alloc = self.alloc;
+        String::from_utf8_lossy(alloc, &self.writer.into_inner())
     }
 
     /// The text as it stands, with no brace behind it.

@@ -32,34 +32,54 @@ fn push_greater_rtt(out: &mut String, latest: u64, smoothed: u64) -> Result<(), 
         ≡ string_bytes out.old ++ text.greater_rtt latest smoothed) }
 {
     if latest < smoothed {
-        return push_number(out, " (9/8 of smoothed_rtt ", smoothed);
+        return push_number(out, "/8 of smoothed_rtt ", smoothed);
     }
-    push_number(out, " (9/8 of latest_rtt ", latest)
+    push_number(out, "/8 of latest_rtt ", latest)
+}
+
+fn push_part_of_rtt(
+    out: &mut String,
+    eighths: u64,
+    latest: u64,
+    smoothed: u64,
+) -> Result<(), AllocError>
+    ensures { OnOk result (string_bytes out.new
+        ≡ string_bytes out.old ++ text.part_of_rtt eighths latest smoothed) }
+{
+    push_number(out, " (", eighths)?;
+    push_greater_rtt(out, latest, smoothed)
 }
 
 /// Which RTT makes a loss delay (RFC 9002, section 6.1.2).
 fn push_delay_words(
     out: &mut String,
     delay: u128,
+    eighths: u64,
     latest: u64,
     smoothed: u64,
 ) -> Result<(), AllocError>
     ensures { OnOk result (string_bytes out.new
-        ≡ string_bytes out.old ++ text.delay_words delay latest smoothed) }
+        ≡ string_bytes out.old ++ text.delay_words delay eighths latest smoothed) }
 {
-    let of_rtt = (9 * u128::from(latest.max(smoothed)) + 7) / 8;
+    let of_rtt = (u128::from(eighths) * u128::from(latest.max(smoothed)) + 7) / 8;
     if delay <= of_rtt {
-        return push_greater_rtt(out, latest, smoothed);
+        return push_part_of_rtt(out, eighths, latest, smoothed);
     }
     push_words(out, " (kGranularity")
 }
 
 #[tactic(auto, unfolding(crate::specs::text::Deadlines::delay_text))]
-fn push_delay(out: &mut String, delay: u128, latest: u64, smoothed: u64) -> Result<(), AllocError>
+fn push_delay(
+    out: &mut String,
+    delay: u128,
+    eighths: u64,
+    latest: u64,
+    smoothed: u64,
+) -> Result<(), AllocError>
     ensures { OnOk result (string_bytes out.new
-        ≡ string_bytes out.old ++ text.delay_text delay latest smoothed) }
+        ≡ string_bytes out.old ++ text.delay_text delay eighths latest smoothed) }
 {
-    push_delay_words(out, delay, latest, smoothed)?;
+    push_delay_words(out, delay, eighths, latest, smoothed)?;
     push_words(out, ")\n")
 }
 
@@ -137,10 +157,11 @@ fn push_sum(out: &mut String, due: Due, basis: Basis) -> Result<(), AllocError>
             sent,
             latest_rtt,
             smoothed_rtt,
+            eighths,
         } => {
             let delay = delay_after(due, sent);
             push_packet_sum(out, sent.get(), number.get(), space, delay)?;
-            push_delay(out, delay, latest_rtt, smoothed_rtt)
+            push_delay(out, delay, eighths, latest_rtt, smoothed_rtt)
         }
         Basis::Eliciting {
             sent,

@@ -4,7 +4,7 @@ ghost use Rattle.qa_explain.specs.text.Facts as text;
 
 use crate::text::deadlines::{push_early, push_late, push_set};
 use crate::text::reports::{push_collapse, push_metrics};
-use crate::text::runs::{push_differing, push_nameable, push_owed};
+use crate::text::runs::{push_counted, push_differing, push_nameable, push_owed};
 use crate::text::sending::{
     push_due_probe, push_greatest, push_probe, push_recovery, push_unsent, push_window,
 };
@@ -23,15 +23,24 @@ pub fn push_facts(out: &mut String, event: &Event, cause: &Cause) -> Result<(), 
             Ok(())
         }
         Cause::LossOwed { owed } | Cause::OwedAtEnd { owed } => push_owed(out, owed),
-        Cause::LossNotOwed { owed, free } => push_nameable(out, owed, free),
+        Cause::LossNotOwed {
+            owed,
+            free,
+            counted,
+        } => {
+            push_nameable(out, owed, free)?;
+            push_counted(out, counted)
+        }
         Cause::LossSet {
             owed,
             free,
             unnamed,
             unowed,
+            counted,
         } => {
             push_nameable(out, owed, free)?;
-            push_differing(out, unnamed, unowed)
+            push_differing(out, unnamed, unowed)?;
+            push_counted(out, counted)
         }
         Cause::NumberNotHigher { greatest } => push_greatest(out, event, *greatest),
         Cause::PastWindow {

@@ -3,8 +3,8 @@ ghost use Rattle.std.specs.Prelude.{◌≡◌, ◌++◌, OnOk, string_bytes};
 ghost use Rattle.qa_explain.specs.text.Runs as text;
 
 use crate::text::pieces::{push_name, push_words};
-use qa_base::Span;
-use qa_ledger::{Free, Owed, Ranges};
+use qa_base::{Space, Span};
+use qa_ledger::{Counted, Free, Owed, Ranges};
 use std::alloc::AllocError;
 use std::fmt::Write;
 
@@ -73,19 +73,70 @@ fn push_some_runs_line(out: &mut String, words: &str, runs: &Ranges) -> Result<(
     }
 }
 
+/// Between which numbers packets were counted.
+#[tactic(auto, unfolding(crate::specs::text::Runs::counted_numbers))]
+fn push_counted_numbers(out: &mut String, counted: &Counted) -> Result<(), AllocError>
+    ensures { OnOk result (string_bytes out.new
+        ≡ string_bytes out.old ++ text.counted_numbers counted.now) }
+{
+    let (number, largest) = (counted.number.get(), counted.largest.get());
+    write!(out, "  packets sent after {number}, up to {largest}")
+}
+
+/// How many there were, and how many the packet threshold asks for.
+#[tactic(auto, unfolding(crate::specs::text::Runs::counted_amounts))]
+fn push_counted_amounts(out: &mut String, counted: &Counted) -> Result<(), AllocError>
+    ensures { OnOk result (string_bytes out.new
+        ≡ string_bytes out.old ++ text.counted_amounts counted.now) }
+{
+    let (packets, threshold) = (counted.packets, counted.threshold);
+    write!(out, ": {packets} (packet_threshold {threshold}")
+}
+
+/// A line that says how far a packet lies below the largest acknowledged one, by the packets that
+/// were sent (RFC 9002, section 6.1.1).
+#[tactic(auto, unfolding(crate::specs::text::Runs::some_counted_text))]
+fn push_some_counted(out: &mut String, counted: &Counted) -> Result<(), AllocError>
+    ensures { OnOk result (string_bytes out.new
+        ≡ string_bytes out.old ++ text.some_counted_text counted.now) }
+{
+    push_counted_numbers(out, counted)?;
+    push_counted_amounts(out, counted)?;
+    push_words(out, ")\n")
+}
+
+/// The same, where it is told: where the packet threshold counts packets.
+pub fn push_counted(out: &mut String, counted: &Option<Counted>) -> Result<(), AllocError>
+    ensures { OnOk result (string_bytes out.new
+        ≡ string_bytes out.old ++ text.counted_text counted.now) }
+{
+    match counted {
+        None => Ok(()),
+        Some(counted) => push_some_counted(out, counted),
+    }
+}
+
+fn push_owed_in(out: &mut String, space: Option<Space>, runs: &[Span]) -> Result<(), AllocError>
+    ensures { OnOk result (string_bytes out.new
+        ≡ string_bytes out.old ++ text.owed_in_text space runs.now) }
+{
+    match space {
+        None => push_words(out, "  nothing is owed\n"),
+        Some(space) => {
+            push_name(out, "  owed: ", space.name())?;
+            push_runs_line(out, "", runs)
+        }
+    }
+}
+
 /// Appends a line that says what is owed as lost (RFC 9002, section 6.1).
 #[tactic(auto, unfolding(crate::specs::text::Runs::owed_text))]
 pub fn push_owed(out: &mut String, owed: &Owed) -> Result<(), AllocError>
     ensures { OnOk result (string_bytes out.new
         ≡ string_bytes out.old ++ text.owed_text owed.now) }
 {
-    match owed.space {
-        None => push_words(out, "  nothing is owed\n"),
-        Some(space) => {
-            push_name(out, "  owed: ", space.name())?;
-            push_runs_line(out, "", owed.numbers.as_slice())
-        }
-    }
+    push_owed_in(out, owed.space, owed.numbers.as_slice())?;
+    push_counted(out, &owed.counted)
 }
 
 #[tactic(auto, unfolding(crate::specs::text::Runs::free_runs_text))]

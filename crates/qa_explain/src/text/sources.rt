@@ -16,7 +16,7 @@ fn value_source(field: Field) -> &'static str
         Field::BytesInFlight =>
             "  RFC 9002, 6.2, B.2: packets are in flight until they are acknowledged, declared lost or discarded; a timeout takes none out.\n",
         Field::LatestRtt =>
-            "  RFC 9002, 5.1: the time from when the largest packet of the ACK was sent to the ACK, with no delay taken off.\n",
+            "  RFC 9002, 5.1: the time from when the largest packet of the ACK was sent to the ACK, with no delay taken off, unless latest_rtt_less_delay says so.\n",
         Field::MinRtt => "  RFC 9002, 5.2: the least latest_rtt, with no delay taken off.\n",
         Field::SmoothedRtt => "  RFC 9002, 5.3: 7/8 of smoothed_rtt, and 1/8 of adjusted_rtt.\n",
         Field::Rttvar =>

@@ -25,20 +25,22 @@ use Rattle.qa_base.specs.declared.space.Space.{Space}
 use Rattle.qa_base.specs.declared.space.Space.TheVariants.{Initial, Handshake, App}
 use Rattle.qa_base.specs.declared.space.LossByNumber.{LossByNumber}
 use Rattle.qa_base.specs.declared.space.LossByNumber.TheVariants.{Must}
+use Rattle.qa_base.specs.declared.space.ThresholdCounts.{ThresholdCounts}
+use Rattle.qa_base.specs.declared.space.ThresholdCounts.TheVariants.{Numbers}
 use Rattle.qa_base.specs.declared.space.Controller.{Controller}
 use Rattle.qa_base.specs.declared.space.Controller.TheVariants.{NewReno}
 use Rattle.qa_base.specs.declared.space.TimeUnit.{TimeUnit}
 use Rattle.qa_base.specs.declared.space.TimeUnit.TheVariants.{Microseconds}
 use Rattle.qa_base.specs.values.Events.{is_space}
 use Rattle.qa_base.specs.values.Limits.{max_time, max_packet_number, max_packet_size}
-use Rattle.qa_base.specs.values.Names.{key_name, role_name, role_named, unit_name, controller_name, loss_by_number_name, unit_named, controller_named, loss_by_number_named, space_name, space_named, discarded_named, permission_name, permission_named, kind_name, kind_named}
+use Rattle.qa_base.specs.values.Names.{key_name, role_name, role_named, unit_name, controller_name, loss_by_number_name, unit_named, controller_named, loss_by_number_named, threshold_counts_name, threshold_counts_named, space_name, space_named, discarded_named, permission_name, permission_named, kind_name, kind_named}
 use Rattle.qa_format.specs.format.Proper.{IsProperEvent}
 use Rattle.qa_base.specs.values.Settings.{Settings, no_options}
 use Rattle.qa_format.specs.format.Keys.{◌>>=◌, both, Kind, read_or, integer, integer_from, string, string_among, string_naming, boolean, ranges, required, optional}
 use Rattle.qa_format.specs.format.Reading.{reader_named, object_says}
-use Rattle.qa_format.specs.format.Tables.{time, space, version, unit_and_window_for, unit_and_window, header_fields, option_fields, choice_fields, version_two_options, version_three_options, options_for, options, settings, of_version, with_losses, header_of, sent_fields, sent_of, ack_fields, ack_of, lost_fields, lost_of, timer_fields, timer_of, discard_fields, discard_of, confirmed_of, keys_of, metric_values, metrics_of}
+use Rattle.qa_format.specs.format.Tables.{time, space, version, unit_and_window_for, unit_and_window, header_fields, option_fields, choice_fields, version_two_options, version_three_options, options_for, options, nothing_behind, settings, of_version, with_losses, with_counts, with_eighths, header_of, sent_fields, sent_of, ack_fields, ack_of, lost_fields, lost_of, timer_fields, timer_of, discard_fields, discard_of, confirmed_of, keys_of, metric_values, metrics_of}
 use Rattle.qa_format.specs.format.Written as written
-use Rattle.qa_format.proofs.format.KeysWritten.{required_reads, optional_reads, both_reads, integer_from_reads, role_reads, unit_reads, controller_reads, losses_read, space_reads, permission_reads, kind_reads, ranges_read, present_integer_reads}
+use Rattle.qa_format.proofs.format.KeysWritten.{required_reads, optional_reads, both_reads, integer_from_reads, role_reads, unit_reads, controller_reads, losses_read, counts_read, space_reads, permission_reads, kind_reads, ranges_read, present_integer_reads}
 
 -- ---- several keys
 
@@ -89,7 +91,7 @@ third_unit_found d u w at_version at_unit at_window =
     (optional_found (string_among controller_named) NewReno key.Window d (λ v. written.string (controller_name v)) w at_window (λ v. refl) (controller_reads key.Window))
 
 -- version 1 has no options
-pub first_options_found : (d : Data) → get (codes "version") d ≡ Some (written.integer 1) → options d ≡ Ok (no_options, Some Must)
+pub first_options_found : (d : Data) → get (codes "version") d ≡ Some (written.integer 1) → options d ≡ Ok (no_options, nothing_behind)
 first_options_found d at = ap (λ r. options_for r d) (version_found d 1 at)
 
 -- the values of options that are there, with their defaults
@@ -114,21 +116,41 @@ losses_found d None at = ap (λ g. read_or (string_naming loss_by_number_named) 
 losses_found d (Some l) at =
     optional_reads (string_naming loss_by_number_named) (Some Must) key.LossByNumber d (written.string (loss_by_number_name l)) (Some l) at refl (losses_read key.LossByNumber l)
 
-choice_fields_found : (d : Data) (overshoot eliciting : Option Bool) (threshold early : Option ℕ) (losses : Option LossByNumber)
+-- what threshold_counts stands for, where it is there or not
+counts_found : (d : Data) (counts : Option ThresholdCounts) → get (codes "threshold_counts") d ≡ option_map (λ t. written.string (threshold_counts_name t)) counts
+    → optional (string_naming threshold_counts_named) (Some Numbers) key.ThresholdCounts d ≡ Ok (Some (unwrap_or counts Numbers))
+counts_found d None at = ap (λ g. read_or (string_naming threshold_counts_named) (Some Numbers) key.ThresholdCounts (option_and_then (λ v. if is_some (as_null v) then None else Some v) g)) at
+counts_found d (Some t) at =
+    optional_reads (string_naming threshold_counts_named) (Some Numbers) key.ThresholdCounts d (written.string (threshold_counts_name t)) (Some t) at refl (counts_read key.ThresholdCounts t)
+
+choice_fields_found : (d : Data) (overshoot eliciting : Option Bool) (threshold early : Option ℕ) (losses : Option LossByNumber) (counts : Option ThresholdCounts) (reset less : Option Bool) (eighths : Option ℕ) (order : Option Bool)
     → get (codes "window_overshoot") d ≡ option_map written.boolean overshoot
     → get (codes "sample_eliciting_only") d ≡ option_map written.boolean eliciting
     → get (codes "packet_threshold") d ≡ option_map written.integer threshold
     → get (codes "timer_early_us") d ≡ option_map written.integer early
     → get (codes "loss_by_number") d ≡ option_map (λ l. written.string (loss_by_number_name l)) losses
-    → choice_fields d ≡ Ok ((unwrap_or overshoot false, unwrap_or eliciting false), ((unwrap_or threshold 3, unwrap_or early 0), Some (unwrap_or losses Must)))
-choice_fields_found d overshoot eliciting threshold early losses at_overshoot at_eliciting at_threshold at_early at_losses =
+    → get (codes "threshold_counts") d ≡ option_map (λ t. written.string (threshold_counts_name t)) counts
+    → get (codes "reset_rtt") d ≡ option_map written.boolean reset
+    → get (codes "latest_rtt_less_delay") d ≡ option_map written.boolean less
+    → get (codes "time_threshold_eighths") d ≡ option_map written.integer eighths
+    → get (codes "recovery_by_order") d ≡ option_map written.boolean order
+    → choice_fields d ≡ Ok ((unwrap_or overshoot false, unwrap_or eliciting false), ((unwrap_or threshold 3, unwrap_or early 0), ((Some (unwrap_or losses Must), Some (unwrap_or counts Numbers)), ((unwrap_or reset false, unwrap_or less false), (unwrap_or eighths 9, unwrap_or order false)))))
+choice_fields_found d overshoot eliciting threshold early losses counts reset less eighths order at_overshoot at_eliciting at_threshold at_early at_losses at_counts at_reset at_less at_eighths at_order =
     let flags = both_reads _ _ (unwrap_or overshoot false) (unwrap_or eliciting false)
     (optional_found boolean false key.WindowOvershoot d written.boolean overshoot at_overshoot (λ b. refl) (λ b. refl))
     (optional_found boolean false key.SampleElicitingOnly d written.boolean eliciting at_eliciting (λ b. refl) (λ b. refl)) in
     let numbers = both_reads _ _ (unwrap_or threshold 3) (unwrap_or early 0)
     (optional_found integer 3 key.PacketThreshold d written.integer threshold at_threshold (λ n. refl) (λ n. refl))
     (optional_found integer 0 key.TimerEarlyUs d written.integer early at_early (λ n. refl) (λ n. refl)) in
-    both_reads _ _ _ _ flags (both_reads _ _ _ _ numbers (losses_found d losses at_losses))
+    let words = both_reads _ _ (Some (unwrap_or losses Must)) (Some (unwrap_or counts Numbers)) (losses_found d losses at_losses) (counts_found d counts at_counts) in
+    let rtts = both_reads _ _ (unwrap_or reset false) (unwrap_or less false)
+    (optional_found boolean false key.ResetRtt d written.boolean reset at_reset (λ b. refl) (λ b. refl))
+    (optional_found boolean false key.LatestRttLessDelay d written.boolean less at_less (λ b. refl) (λ b. refl)) in
+    let lasts = both_reads _ _ (unwrap_or eighths 9) (unwrap_or order false)
+    (optional_found integer 9 key.TimeThresholdEighths d written.integer eighths at_eighths (λ n. refl) (λ n. refl))
+    (optional_found boolean false key.RecoveryByOrder d written.boolean order at_order (λ b. refl) (λ b. refl)) in
+    let delays = both_reads _ _ _ _ rtts lasts in
+    both_reads _ _ _ _ flags (both_reads _ _ _ _ numbers (both_reads _ _ _ _ words delays))
 
 -- the options of version 2 are the values that are there, with their defaults
 pub version_two_options_found : (d : Data) (limit : Option ℕ) (refresh : Option Bool) (slack_us slack_bytes : Option ℕ)
@@ -137,14 +159,14 @@ pub version_two_options_found : (d : Data) (limit : Option ℕ) (refresh : Optio
     → get (codes "refresh_min_rtt") d ≡ option_map written.boolean refresh
     → get (codes "report_slack_us") d ≡ option_map written.integer slack_us
     → get (codes "report_slack_bytes") d ≡ option_map written.integer slack_bytes
-    → options d ≡ Ok (record no_options { timer_late = limit; refresh_min_rtt = unwrap_or refresh false; report_slack_us = unwrap_or slack_us 0; report_slack_bytes = unwrap_or slack_bytes 0 }, Some Must)
+    → options d ≡ Ok (record no_options { timer_late = limit; refresh_min_rtt = unwrap_or refresh false; report_slack_us = unwrap_or slack_us 0; report_slack_bytes = unwrap_or slack_bytes 0 }, nothing_behind)
 version_two_options_found d limit refresh slack_us slack_bytes at_version at_limit at_refresh at_slack_us at_slack_bytes =
     let second : options d ≡ version_two_options d = ap (λ r. options_for r d) (version_found d 2 at_version) in
     let fields = option_fields_found d limit refresh slack_us slack_bytes at_limit at_refresh at_slack_us at_slack_bytes in
     second ∙ then_reads _ _ ((limit, unwrap_or refresh false), (unwrap_or slack_us 0, unwrap_or slack_bytes 0)) _ fields refl
 
 -- and so are those of version 3
-pub version_three_options_found : (d : Data) (limit : Option ℕ) (refresh : Option Bool) (slack_us slack_bytes : Option ℕ) (overshoot eliciting : Option Bool) (threshold early : Option ℕ) (losses : Option LossByNumber)
+pub version_three_options_found : (d : Data) (limit : Option ℕ) (refresh : Option Bool) (slack_us slack_bytes : Option ℕ) (overshoot eliciting : Option Bool) (threshold early : Option ℕ) (losses : Option LossByNumber) (counts : Option ThresholdCounts) (reset less : Option Bool) (eighths : Option ℕ) (order : Option Bool)
     → get (codes "version") d ≡ Some (written.integer 3)
     → get (codes "timer_late_us") d ≡ option_map written.integer limit
     → get (codes "refresh_min_rtt") d ≡ option_map written.boolean refresh
@@ -155,6 +177,11 @@ pub version_three_options_found : (d : Data) (limit : Option ℕ) (refresh : Opt
     → get (codes "packet_threshold") d ≡ option_map written.integer threshold
     → get (codes "timer_early_us") d ≡ option_map written.integer early
     → get (codes "loss_by_number") d ≡ option_map (λ l. written.string (loss_by_number_name l)) losses
+    → get (codes "threshold_counts") d ≡ option_map (λ t. written.string (threshold_counts_name t)) counts
+    → get (codes "reset_rtt") d ≡ option_map written.boolean reset
+    → get (codes "latest_rtt_less_delay") d ≡ option_map written.boolean less
+    → get (codes "time_threshold_eighths") d ≡ option_map written.integer eighths
+    → get (codes "recovery_by_order") d ≡ option_map written.boolean order
     → options d ≡ Ok (
       record no_options {
         timer_late = limit;
@@ -165,20 +192,23 @@ pub version_three_options_found : (d : Data) (limit : Option ℕ) (refresh : Opt
         sample_eliciting_only = unwrap_or eliciting false;
         packet_threshold = unwrap_or threshold 3;
         timer_early_us = unwrap_or early 0;
+        reset_rtt = unwrap_or reset false;
+        latest_rtt_less_delay = unwrap_or less false;
+        recovery_by_order = unwrap_or order false;
       },
-      Some (unwrap_or losses Must),
+      ((Some (unwrap_or losses Must), Some (unwrap_or counts Numbers)), unwrap_or eighths 9),
     )
-version_three_options_found d limit refresh slack_us slack_bytes overshoot eliciting threshold early losses at_version at_limit at_refresh at_slack_us at_slack_bytes at_overshoot at_eliciting at_threshold at_early at_losses =
+version_three_options_found d limit refresh slack_us slack_bytes overshoot eliciting threshold early losses counts reset less eighths order at_version at_limit at_refresh at_slack_us at_slack_bytes at_overshoot at_eliciting at_threshold at_early at_losses at_counts at_reset at_less at_eighths at_order =
     let third : options d ≡ version_three_options d = ap (λ r. options_for r d) (version_found d 3 at_version) in
     let asked = option_fields_found d limit refresh slack_us slack_bytes at_limit at_refresh at_slack_us at_slack_bytes in
-    let chosen = choice_fields_found d overshoot eliciting threshold early losses at_overshoot at_eliciting at_threshold at_early at_losses in
+    let chosen = choice_fields_found d overshoot eliciting threshold early losses counts reset less eighths order at_overshoot at_eliciting at_threshold at_early at_losses at_counts at_reset at_less at_eighths at_order in
     third ∙ then_reads _ _
-    (((limit, unwrap_or refresh false), (unwrap_or slack_us 0, unwrap_or slack_bytes 0)), ((unwrap_or overshoot false, unwrap_or eliciting false), ((unwrap_or threshold 3, unwrap_or early 0), Some (unwrap_or losses Must))))
+    (((limit, unwrap_or refresh false), (unwrap_or slack_us 0, unwrap_or slack_bytes 0)), ((unwrap_or overshoot false, unwrap_or eliciting false), ((unwrap_or threshold 3, unwrap_or early 0), ((Some (unwrap_or losses Must), Some (unwrap_or counts Numbers)), ((unwrap_or reset false, unwrap_or less false), (unwrap_or eighths 9, unwrap_or order false))))))
     _ (both_reads _ _ _ _ asked chosen) refl
 
--- the settings are those of the values that are there, with their defaults, in the version of this number with these options and
--- losses by number
-pub header_found : (ms : Members) (n : ℕ) (asked : Options) (losses : LossByNumber) (role : Role) (times : TimeUnit) (who : Controller) (max_datagram_size : ℕ) (max_ack_delay initial_rtt initial_window : Option ℕ) (s t : Settings)
+-- the settings are those of the values that are there, with their defaults, in the version of this number with these options,
+-- losses by number, what the packet threshold counts, and time threshold
+pub header_found : (ms : Members) (n : ℕ) (asked : Options) (losses : LossByNumber) (counts : ThresholdCounts) (eighths : ℕ) (role : Role) (times : TimeUnit) (who : Controller) (max_datagram_size : ℕ) (max_ack_delay initial_rtt initial_window : Option ℕ) (s t : Settings)
     → get_member (codes "event") ms ≡ Some (written.string (codes "header"))
     → get_member (codes "version") ms ≡ Some (written.integer n)
     → get_member (codes "role") ms ≡ Some (written.string (role_name role))
@@ -187,12 +217,12 @@ pub header_found : (ms : Members) (n : ℕ) (asked : Options) (losses : LossByNu
     → get_member (codes "max_ack_delay") ms ≡ option_map written.integer max_ack_delay
     → get_member (codes "initial_rtt") ms ≡ option_map written.integer initial_rtt
     → get_member (codes "initial_window") ms ≡ option_map written.integer initial_window
-    → options (object ms) ≡ Ok (asked, Some losses)
+    → options (object ms) ≡ Ok (asked, ((Some losses, Some counts), eighths))
     → settings times role max_datagram_size max_ack_delay initial_rtt initial_window ≡ Ok s
-    → (of_version n (record asked { controller = who }) s >>= with_losses (Some losses)) ≡ Ok t
+    → (of_version n (record asked { controller = who }) s >>= with_losses (Some losses) >>= with_counts (Some counts) >>= with_eighths eighths) ≡ Ok t
     → object_says reader_named (object ms) ≡ Ok (line.Header t)
 unfolding object_says header_of
-header_found ms n asked losses role times who max_datagram_size max_ack_delay initial_rtt initial_window s t named at_version at_role at_unit at_size at_delay at_rtt at_window asks are of =
+header_found ms n asked losses counts eighths role times who max_datagram_size max_ack_delay initial_rtt initial_window s t named at_version at_role at_unit at_size at_delay at_rtt at_window asks are of =
     let d = object ms in
     let firsts = both_reads _ _ n role (version_found d n at_version)
     (required_reads (string_among role_named) key.Role d (written.string (role_name role)) role at_role refl (role_reads key.Role role)) in
@@ -202,8 +232,8 @@ header_found ms n asked losses role times who max_datagram_size max_ack_delay in
     let starts = both_reads _ _ initial_rtt initial_window (present_integer_reads key.InitialRtt d initial_rtt at_rtt) (present_integer_reads key.InitialWindow d initial_window at_window) in
     let fields = both_reads _ _ _ _ firsts (both_reads _ _ _ _ at_unit (both_reads _ _ _ _ sizes starts)) in
     let says : header_of d ≡ Ok t = then_reads (both (header_fields d) (options d)) _
-    (((n, role), ((times, who), ((max_datagram_size, max_ack_delay), (initial_rtt, initial_window)))), (asked, Some losses)) _ (both_reads _ _ _ _ fields asks)
-    (ap (λ r. r >>= of_version n (record asked { controller = who }) >>= with_losses (Some losses)) are ∙ of) in
+    (((n, role), ((times, who), ((max_datagram_size, max_ack_delay), (initial_rtt, initial_window)))), (asked, ((Some losses, Some counts), eighths))) _ (both_reads _ _ _ _ fields asks)
+    (ap (λ r. r >>= of_version n (record asked { controller = who }) >>= with_losses (Some losses) >>= with_counts (Some counts) >>= with_eighths eighths) are ∙ of) in
     then_reads (required string key.Event d) _ (codes "header") (line.Header t) (named_found d (codes "header") named) (ap (λ r. r >>= λ u. Ok (line.Header u)) says)
 
 -- ---- packets

@@ -23,6 +23,8 @@ use Rattle.qa_base.specs.declared.space.Space.{Space}
 use Rattle.qa_base.specs.declared.space.Space.TheVariants.{Initial, Handshake, App}
 use Rattle.qa_base.specs.declared.space.LossByNumber.{LossByNumber}
 use Rattle.qa_base.specs.declared.space.LossByNumber.TheVariants.{Must, May}
+use Rattle.qa_base.specs.declared.space.ThresholdCounts.{ThresholdCounts}
+use Rattle.qa_base.specs.declared.space.ThresholdCounts.TheVariants.{Numbers, Packets}
 use Rattle.qa_base.specs.declared.space.Controller.{Controller}
 use Rattle.qa_base.specs.declared.space.Controller.TheVariants.{NewReno, Reported}
 use Rattle.qa_base.specs.declared.space.TimeUnit.{TimeUnit}
@@ -30,7 +32,7 @@ use Rattle.qa_base.specs.declared.space.TimeUnit.TheVariants.{Microseconds, Nano
 use Rattle.qa_base.specs.values.Events.{has_ranges}
 use Rattle.qa_format.specs.format.Keys.{◌>>=◌, both, Kind, ranged, integer, integer_from, string_among, string_naming, pairs_of, is_range, ranges, present, required, read_or, optional, if_present}
 use Rattle.qa_base.specs.values.Limits.{max_packet_number}
-use Rattle.qa_base.specs.values.Names.{key_name, field_name, role_name, role_named, unit_name, controller_name, loss_by_number_name, unit_named, controller_named, loss_by_number_named, space_name, space_named, permission_name, permission_named, kind_name, kind_named}
+use Rattle.qa_base.specs.values.Names.{key_name, field_name, role_name, role_named, unit_name, controller_name, loss_by_number_name, unit_named, controller_named, loss_by_number_named, threshold_counts_name, threshold_counts_named, space_name, space_named, permission_name, permission_named, kind_name, kind_named}
 use Rattle.qa_format.specs.format.Proper.{IsRange, IsWord}
 pub use Rattle.qa_format.specs.format.Simple.{IsKept}
 use Rattle.qa_format.specs.format.Simple.{is_ascii, AreSimple, HaveSimple, IsBefore}
@@ -72,6 +74,10 @@ controller_reads k Reported = refl
 pub losses_read : (k : Key) (l : LossByNumber) → string_naming loss_by_number_named k (written.string (loss_by_number_name l)) ≡ Ok (Some l)
 losses_read k Must = refl
 losses_read k May = refl
+
+pub counts_read : (k : Key) (t : ThresholdCounts) → string_naming threshold_counts_named k (written.string (threshold_counts_name t)) ≡ Ok (Some t)
+counts_read k Numbers = refl
+counts_read k Packets = refl
 
 pub space_reads : (k : Key) (s : Space) → string_among space_named k (written.string (space_name s)) ≡ Ok s
 space_reads k Initial = refl
@@ -165,6 +171,10 @@ controller_is_kept Reported = string_is_kept _ refl
 pub losses_are_kept : (l : LossByNumber) → IsKept (written.string (loss_by_number_name l))
 losses_are_kept Must = string_is_kept _ refl
 losses_are_kept May = string_is_kept _ refl
+
+pub counts_are_kept : (t : ThresholdCounts) → IsKept (written.string (threshold_counts_name t))
+counts_are_kept Numbers = string_is_kept _ refl
+counts_are_kept Packets = string_is_kept _ refl
 
 pub space_is_kept : (s : Space) → IsKept (written.string (space_name s))
 space_is_kept Initial = string_is_kept _ refl

@@ -3,7 +3,7 @@ use Rattle.std.proofs.Common.{◌≡◌, ◌∙◌, ℕ, zero, suc, ◌≤◌, �
 use Rattle.std.proofs.Math.Dec.{eqb-suc-zero}
 use Rattle.std.proofs.lemmas.Bool.{and_parts, eqb-true, leb-true, or_from, le-ltb}
 use Rattle.std.specs.Option.{ForSome}
-use Rattle.std.specs.Prelude.{◌==◌, nat_lt, nat_le, codes, option_map, unwrap_or}
+use Rattle.std.specs.Prelude.{if◌then◌else◌, ◌==◌, nat_lt, nat_le, codes, option_map, unwrap_or}
 use Rattle.std.specs.Cmp.Lexicographic.{slice_cmp}
 use Rattle.std.specs.Ordering.{nat_cmp}
 use Rattle.serde_json.specs.Data.{Data, depth}
@@ -27,6 +27,8 @@ use Rattle.qa_base.specs.declared.space.TimerKind.{TimerKind}
 use Rattle.qa_base.specs.declared.space.Space.{Space}
 use Rattle.qa_base.specs.declared.space.LossByNumber.{LossByNumber}
 use Rattle.qa_base.specs.declared.space.LossByNumber.TheVariants.{Must, May}
+use Rattle.qa_base.specs.declared.space.ThresholdCounts.{ThresholdCounts}
+use Rattle.qa_base.specs.declared.space.ThresholdCounts.TheVariants.{Numbers, Packets}
 use Rattle.qa_base.specs.declared.space.Controller.{Controller}
 use Rattle.qa_base.specs.declared.space.Controller.TheVariants.{NewReno, Reported}
 use Rattle.qa_base.specs.declared.space.TimeUnit.{TimeUnit}
@@ -34,18 +36,18 @@ use Rattle.qa_base.specs.declared.space.TimeUnit.TheVariants.{Microseconds}
 use Rattle.qa_base.proofs.Units.{unit_high}
 use Rattle.qa_format.specs.format.Keys.{◌>>=◌}
 use Rattle.qa_format.specs.format.Lines.{has_lf}
-use Rattle.qa_base.specs.values.Limits.{max_time, max_packet_size, max_timer_late, max_report_slack_us, max_report_slack_bytes, min_packet_threshold, max_packet_threshold, max_timer_early_us}
-use Rattle.qa_base.specs.values.Names.{line_kind_name, role_name, unit_name, controller_name, loss_by_number_name, space_name}
+use Rattle.qa_base.specs.values.Limits.{max_time, max_packet_size, max_timer_late, max_report_slack_us, max_report_slack_bytes, min_packet_threshold, max_packet_threshold, max_timer_early_us, min_time_threshold_eighths, max_time_threshold_eighths}
+use Rattle.qa_base.specs.values.Names.{line_kind_name, role_name, unit_name, controller_name, loss_by_number_name, threshold_counts_name, space_name}
 use Rattle.qa_format.specs.format.Proper.{IsProperEvent, IsProperLine}
 use Rattle.qa_format.specs.format.Reading.{reader_named, object_says, json_of, reading_by, reading}
-use Rattle.qa_base.specs.values.Settings.{Settings, AreInRange, in_unit, is_outside, no_options, version_in, is_reported, is_may, spares_unreported}
-use Rattle.qa_format.specs.format.Tables.{settings, of_version, with_losses}
+use Rattle.qa_base.specs.values.Settings.{choosing_options, Settings, AreInRange, in_unit, is_outside, no_options, version_in, is_reported, is_may, counts_packets, spares_unreported}
+use Rattle.qa_format.specs.format.Tables.{out_of_range, settings, of_version, with_losses, with_counts, with_eighths}
 use Rattle.qa_format.specs.format.Written as written
 use Rattle.qa_format.specs.format.Written.{Pairs, reported, header_pairs, event_pairs, members, object_of, written as text_of}
 use Rattle.qa_format.proofs.format.Compact.{IsSimple, read-compact_text, is_utf8-compact_text}
 use Rattle.qa_format.proofs.format.OneLine.{has_lf-compact_text}
 use Rattle.qa_format.proofs.format.KeysFound.{header_found, first_unit_found, second_unit_found, third_unit_found, first_options_found, version_two_options_found, version_three_options_found, sent_found, ack_found, lost_found, timer_found, discard_found, confirmed_found, keys_found, metrics_found}
-use Rattle.qa_format.proofs.format.KeysWritten.{past_reported, reported_stands, past_last, last_stands, IsKept, integer_is_kept, string_is_kept, boolean_is_kept, role_is_kept, unit_is_kept, controller_is_kept, losses_are_kept, space_is_kept, permission_is_kept, kind_is_kept, ranges_are_kept, Follow, none_follow, follow, follow_later, follow_reported, follow_last}
+use Rattle.qa_format.proofs.format.KeysWritten.{past_reported, reported_stands, past_last, last_stands, IsKept, integer_is_kept, string_is_kept, boolean_is_kept, role_is_kept, unit_is_kept, controller_is_kept, losses_are_kept, counts_are_kept, space_is_kept, permission_is_kept, kind_is_kept, ranges_are_kept, Follow, none_follow, follow, follow_later, follow_reported, follow_last}
 
 -- ---- a report of the sender's state
 
@@ -229,7 +231,7 @@ limit_is (Some n) hi high = high n refl
 
 -- options in their ranges pass the test of ranges
 pub options_pass : (s : Settings) (limit : Option ℕ) (refresh : Bool) (slack_us slack_bytes : ℕ) → AreInRange (second s limit refresh slack_us slack_bytes)
-    → (of_version 2 (second s limit refresh slack_us slack_bytes).options (first s) >>= with_losses (Some Must)) ≡ Ok (second s limit refresh slack_us slack_bytes)
+    → (of_version 2 (second s limit refresh slack_us slack_bytes).options (first s) >>= with_losses (Some Must) >>= with_counts (Some Numbers) >>= with_eighths 9) ≡ Ok (second s limit refresh slack_us slack_bytes)
 options_pass s limit refresh slack_us slack_bytes are = rw (
   inside 0 max_timer_late (unwrap_or limit 0) (omega arith) (limit_is limit max_timer_late are.late_high),
   inside 0 max_report_slack_us slack_us (omega arith) are.slack_us_high,
@@ -237,30 +239,61 @@ options_pass s limit refresh slack_us slack_bytes are = rw (
 ) refl
 
 -- and so do those of version 3
-chosen_pass : (s : Settings) (limit : Option ℕ) (losses : LossByNumber) (x : Settings) → AreInRange (third s limit)
-    → spares_unreported (record s.options { loss_by_number = losses }) ≡ false
-    → of_version 3 (record s.options { timer_late = limit; loss_by_number = losses }) x ≡ Ok (saying x x.unit Three (record s.options { timer_late = limit; loss_by_number = losses }))
-chosen_pass s limit losses x are reported = rw (
+chosen_pass : (s : Settings) (limit : Option ℕ) (losses : LossByNumber) (counts : ThresholdCounts) (eighths : ℕ) (x : Settings) → AreInRange (third s limit)
+    → spares_unreported (record s.options { loss_by_number = losses }) ≡ false → 9 ≤ eighths → eighths ≤ 32
+    → of_version 3 (record s.options { timer_late = limit; loss_by_number = losses; threshold_counts = counts; time_threshold_eighths = eighths }) x
+    ≡ Ok (saying x x.unit Three (record s.options { timer_late = limit; loss_by_number = losses; threshold_counts = counts; time_threshold_eighths = eighths }))
+chosen_pass s limit losses counts eighths x are reported low high = rw (
   inside 0 max_timer_late (unwrap_or limit 0) (omega arith) (limit_is limit max_timer_late are.late_high),
   inside 0 max_report_slack_us s.options.report_slack_us (omega arith) are.slack_us_high,
   inside 0 max_report_slack_bytes s.options.report_slack_bytes (omega arith) are.slack_bytes_high,
   inside min_packet_threshold max_packet_threshold s.options.packet_threshold are.threshold_low are.threshold_high,
   inside 0 max_timer_early_us s.options.timer_early_us (omega arith) are.early_high,
   reported,
+  inside min_time_threshold_eighths max_time_threshold_eighths eighths low high,
 ) refl
 
--- first before losses by number are judged, and then with them
+-- the options before what is judged behind them
+abbrev before_losses : Settings → Option ℕ → Settings
+before_losses s limit = saying (started s) s.unit Three (record s.options { timer_late = limit; loss_by_number = Must; threshold_counts = Numbers; time_threshold_eighths = 9 })
+
+-- with losses by number
+abbrev before_counts : Settings → Option ℕ → Settings
+before_counts s limit = saying (started s) s.unit Three (record s.options { timer_late = limit; threshold_counts = Numbers; time_threshold_eighths = 9 })
+
+-- and with what the packet threshold counts
+abbrev before_eighths : Settings → Option ℕ → Settings
+before_eighths s limit = saying (started s) s.unit Three (record s.options { timer_late = limit; time_threshold_eighths = 9 })
+
 losses_pass : (s : Settings) (limit : Option ℕ) (losses : LossByNumber) → s.options.loss_by_number ≡ losses → AreInRange (third s limit)
-    → with_losses (Some s.options.loss_by_number) (saying (started s) s.unit Three (record s.options { timer_late = limit; loss_by_number = Must })) ≡ Ok (third s limit)
+    → with_losses (Some s.options.loss_by_number) (before_losses s limit) ≡ Ok (before_counts s limit)
 losses_pass s limit Must is are = rw is refl
 losses_pass s limit May is are =
     let reported = rw is at are.spared_reported in
-    rw is (chosen_pass s limit May (saying (started s) s.unit Three (record s.options { timer_late = limit; loss_by_number = Must })) are reported)
+    rw is (chosen_pass s limit May Numbers 9 (before_losses s limit) are reported (omega arith) (omega arith))
+
+counts_pass : (s : Settings) (limit : Option ℕ) (counts : ThresholdCounts) → s.options.threshold_counts ≡ counts → AreInRange (third s limit)
+    → with_counts (Some s.options.threshold_counts) (before_counts s limit) ≡ Ok (before_eighths s limit)
+counts_pass s limit Numbers is are = rw is refl
+counts_pass s limit Packets is are =
+    rw is (chosen_pass s limit s.options.loss_by_number Packets 9 (before_counts s limit) are are.spared_reported (omega arith) (omega arith))
+
+-- and with the time threshold
+eighths_pass : (s : Settings) (limit : Option ℕ) (is_default : Bool) → (s.options.time_threshold_eighths == 9) ≡ is_default → AreInRange (third s limit)
+    → (if is_default then Ok (before_eighths s limit)
+    else out_of_range (choosing_options (before_eighths s limit) (record (before_eighths s limit).options { time_threshold_eighths = s.options.time_threshold_eighths }))) ≡ Ok (third s limit)
+eighths_pass s limit true is are =
+    ap (λ n. Ok (saying (started s) s.unit Three (record s.options { timer_late = limit; time_threshold_eighths = n }))) (sym (eqb-true s.options.time_threshold_eighths 9 is))
+eighths_pass s limit false is are =
+    chosen_pass s limit s.options.loss_by_number s.options.threshold_counts s.options.time_threshold_eighths (before_eighths s limit) are are.spared_reported are.eighths_low are.eighths_high
 
 pub version_three_options_pass : (s : Settings) (limit : Option ℕ) → AreInRange (third s limit)
-    → (of_version 3 (record (third s limit).options { loss_by_number = Must }) (started s) >>= with_losses (Some s.options.loss_by_number)) ≡ Ok (third s limit)
+    → (of_version 3 (record (third s limit).options { loss_by_number = Must; threshold_counts = Numbers; time_threshold_eighths = 9 }) (started s) >>= with_losses (Some s.options.loss_by_number) >>= with_counts (Some s.options.threshold_counts) >>= with_eighths s.options.time_threshold_eighths) ≡ Ok (third s limit)
 version_three_options_pass s limit are =
-    ap (λ r. r >>= with_losses (Some s.options.loss_by_number)) (chosen_pass s limit Must (started s) are refl) ∙ losses_pass s limit s.options.loss_by_number refl are
+    ap (λ r. r >>= with_losses (Some s.options.loss_by_number) >>= with_counts (Some s.options.threshold_counts) >>= with_eighths s.options.time_threshold_eighths) (chosen_pass s limit Must Numbers 9 (started s) are refl (omega arith) (omega arith))
+    ∙ (ap (λ r. r >>= with_counts (Some s.options.threshold_counts) >>= with_eighths s.options.time_threshold_eighths) (losses_pass s limit s.options.loss_by_number refl are)
+    ∙ (ap (λ r. r >>= with_eighths s.options.time_threshold_eighths) (counts_pass s limit s.options.threshold_counts refl are)
+    ∙ eighths_pass s limit (s.options.time_threshold_eighths == 9) refl are))
 
 -- the limit is there or not, and the version stands behind it
 pub limit_at : (s : Settings) (limit : Option ℕ) (refresh : Bool) (slack_us slack_bytes : ℕ)
@@ -297,8 +330,8 @@ third_overshoot_at s None = refl
 third_overshoot_at s (Some n) = refl
 
 -- these options, with others for those that version 2 has not
-abbrev asking : Options → Controller → Bool → Bool → ℕ → ℕ → LossByNumber → Options
-asking o who overshoot only threshold early losses = record {
+abbrev asking : Options → Controller → Bool → Bool → ℕ → ℕ → LossByNumber → ThresholdCounts → Bool → Bool → ℕ → Bool → Options
+asking o who overshoot only threshold early losses counts reset less eighths order = record {
   timer_late = o.timer_late;
   refresh_min_rtt = o.refresh_min_rtt;
   report_slack_us = o.report_slack_us;
@@ -309,20 +342,44 @@ asking o who overshoot only threshold early losses = record {
   packet_threshold = threshold;
   timer_early_us = early;
   loss_by_number = losses;
+  threshold_counts = counts;
+  reset_rtt = reset;
+  latest_rtt_less_delay = less;
+  time_threshold_eighths = eighths;
+  recovery_by_order = order;
 }
 
 -- options that version 2 can say have the default for those that it has not
-version_two_options_are : (o : Options) (who : Controller) (overshoot only : Bool) (threshold early : ℕ) (losses : LossByNumber)
-    → (not (is_reported who) && not overshoot && not only && threshold == 3 && early == 0 && not (is_may losses)) ≡ true
-    → asking o NewReno false false 3 0 Must ≡ asking o who overshoot only threshold early losses
-version_two_options_are o Reported overshoot only threshold early losses says = cc
-version_two_options_are o NewReno true only threshold early losses says = cc
-version_two_options_are o NewReno false true threshold early losses says = cc
-version_two_options_are o NewReno false false threshold early Must says =
-    let parts = and_parts (threshold == 3) (early == 0) (and_parts (threshold == 3 && early == 0) true says).0 in
-    ap₂ (λ n m. asking o NewReno false false n m Must) (sym (eqb-true threshold 3 parts.0)) (sym (eqb-true early 0 parts.1))
-version_two_options_are o NewReno false false threshold early May says =
-    let parts = and_parts (threshold == 3 && early == 0) false says in cc
+version_two_options_are : (o : Options) (who : Controller) (overshoot only : Bool) (threshold early : ℕ) (losses : LossByNumber) (counts : ThresholdCounts) (reset less : Bool) (eighths : ℕ) (order : Bool)
+    → (not (is_reported who) && not overshoot && not only && threshold == 3 && early == 0 && not (is_may losses) && not (counts_packets counts) && not reset && not less && eighths == 9 && not order) ≡ true
+    → asking o NewReno false false 3 0 Must Numbers false false 9 false ≡ asking o who overshoot only threshold early losses counts reset less eighths order
+version_two_options_are o Reported overshoot only threshold early losses counts reset less eighths order says = cc
+version_two_options_are o NewReno true only threshold early losses counts reset less eighths order says = cc
+version_two_options_are o NewReno false true threshold early losses counts reset less eighths order says = cc
+version_two_options_are o NewReno false false threshold early losses counts reset less eighths order says =
+    let order_too = and_parts (threshold == 3 && early == 0 && not (is_may losses) && not (counts_packets counts) && not reset && not less && eighths == 9) (not order) says in
+    let eighths_too = and_parts (threshold == 3 && early == 0 && not (is_may losses) && not (counts_packets counts) && not reset && not less) (eighths == 9) order_too.0 in
+    let less_too = and_parts (threshold == 3 && early == 0 && not (is_may losses) && not (counts_packets counts) && not reset) (not less) eighths_too.0 in
+    let reset_too = and_parts (threshold == 3 && early == 0 && not (is_may losses) && not (counts_packets counts)) (not reset) less_too.0 in
+    let counts_too = and_parts (threshold == 3 && early == 0 && not (is_may losses)) (not (counts_packets counts)) reset_too.0 in
+    let losses_too = and_parts (threshold == 3 && early == 0) (not (is_may losses)) counts_too.0 in
+    let numbers = and_parts (threshold == 3) (early == 0) losses_too.0 in
+    ap₂ (λ n m. asking o NewReno false false n m Must Numbers false false 9 false) (sym (eqb-true threshold 3 numbers.0)) (sym (eqb-true early 0 numbers.1))
+    ∙ words_are losses counts losses_too.1 counts_too.1
+    ∙ rtts_are reset less order reset_too.1 less_too.1 eighths_too.1 order_too.1
+  where
+    words_are : (losses : LossByNumber) (counts : ThresholdCounts) → not (is_may losses) ≡ true → not (counts_packets counts) ≡ true
+        → asking o NewReno false false threshold early Must Numbers false false 9 false ≡ asking o NewReno false false threshold early losses counts false false 9 false
+    words_are May counts must are = cc
+    words_are Must Packets must are = cc
+    words_are Must Numbers must are = refl
+
+    rtts_are : (reset less order : Bool) → not reset ≡ true → not less ≡ true → (eighths == 9) ≡ true → not order ≡ true
+        → asking o NewReno false false threshold early losses counts false false 9 false ≡ asking o NewReno false false threshold early losses counts reset less eighths order
+    rtts_are true less order kept plain is by_time = cc
+    rtts_are false true order kept plain is by_time = cc
+    rtts_are false false true kept plain is by_time = cc
+    rtts_are false false false kept plain is by_time = ap (λ n. asking o NewReno false false threshold early losses counts false false n false) (sym (eqb-true eighths 9 is))
 
 -- what holds of headers as they are written in their version holds of all in their ranges
 pub of_each : (P : Settings → Type 0) (s : Settings) (v : Version) → s.version ≡ v → AreInRange s
@@ -337,7 +394,7 @@ of_each P s One is are of_first of_second of_third =
 of_each P s Two is are of_first of_second of_third =
     let o = s.options in
     let said = rw is at are.said in
-    let asked = version_two_options_are o o.controller o.window_overshoot o.sample_eliciting_only o.packet_threshold o.timer_early_us o.loss_by_number said.1 in
+    let asked = version_two_options_are o o.controller o.window_overshoot o.sample_eliciting_only o.packet_threshold o.timer_early_us o.loss_by_number o.threshold_counts o.reset_rtt o.latest_rtt_less_delay o.time_threshold_eighths o.recovery_by_order said.1 in
     let same : second s o.timer_late o.refresh_min_rtt o.report_slack_us o.report_slack_bytes ≡ s = ap₂ (saying s Microseconds) (sym is) asked ∙ ap (λ u. saying s u s.version s.options) (sym said.0) in
     subst P same (of_second o.timer_late o.refresh_min_rtt o.report_slack_us o.report_slack_bytes (subst AreInRange (sym same) are))
 of_each P s Three is are of_first of_second of_third =
@@ -432,12 +489,15 @@ third_begins : (s : Settings) (ps : Pairs) → AreInRange s → Follow (codes "m
     (key.Event, written.string (line_kind_name kinds.Header))
     ∷ (key.InitialRtt, written.integer s.initial_rtt)
     ∷ (key.InitialWindow, written.integer s.initial_window)
+    ∷ (key.LatestRttLessDelay, written.boolean s.options.latest_rtt_less_delay)
     ∷ (key.LossByNumber, written.string (loss_by_number_name s.options.loss_by_number))
     ∷ (key.MaxAckDelay, written.integer s.max_ack_delay)
     ∷ (key.MaxDatagramSize, written.integer s.max_datagram_size)
     ∷ ps)
 third_begins s ps are more =
-    header_starts s _ are (follow _ key.LossByNumber _ _ refl refl (losses_are_kept s.options.loss_by_number) (sizes_follow s _ ps are refl more))
+    header_starts s _ are
+    (follow _ key.LatestRttLessDelay _ _ refl refl (boolean_is_kept s.options.latest_rtt_less_delay)
+    (follow _ key.LossByNumber _ _ refl refl (losses_are_kept s.options.loss_by_number) (sizes_follow s _ ps are refl more)))
 
 version_follows : (j : List ℕ) (n : ℕ) → slice_cmp nat_cmp j (codes "version") ≡ Less → n ≤ 2 → Follow j ((key.Version, written.integer n) ∷ [])
 version_follows j n less small = follow j key.Version (written.integer n) [] less refl (integer_is_kept n (omega (arith, small))) (none_follow (codes "version"))
@@ -486,21 +546,29 @@ third_ends s j less =
 third_goes_on : (s : Settings) (limit : Option ℕ) (ps : Pairs) → AreInRange (third s limit) → Follow (codes "timer_early_us") ps
     → Follow (codes "max_datagram_size") (
     (key.PacketThreshold, written.integer s.options.packet_threshold)
+    ∷ (key.RecoveryByOrder, written.boolean s.options.recovery_by_order)
     ∷ (key.RefreshMinRtt, written.boolean s.options.refresh_min_rtt)
     ∷ (key.ReportSlackBytes, written.integer s.options.report_slack_bytes)
     ∷ (key.ReportSlackUs, written.integer s.options.report_slack_us)
+    ∷ (key.ResetRtt, written.boolean s.options.reset_rtt)
     ∷ (key.Role, written.string (role_name s.role))
     ∷ (key.SampleElicitingOnly, written.boolean s.options.sample_eliciting_only)
+    ∷ (key.ThresholdCounts, written.string (threshold_counts_name s.options.threshold_counts))
+    ∷ (key.TimeThresholdEighths, written.integer s.options.time_threshold_eighths)
     ∷ (key.TimerEarlyUs, written.integer s.options.timer_early_us)
     ∷ ps)
 third_goes_on s limit ps are more =
     follow _ key.PacketThreshold _ _ refl refl (integer_is_kept s.options.packet_threshold (omega (arith, are.threshold_high)))
+    (follow _ key.RecoveryByOrder _ _ refl refl (boolean_is_kept s.options.recovery_by_order)
     (follow _ key.RefreshMinRtt _ _ refl refl (boolean_is_kept s.options.refresh_min_rtt)
     (follow _ key.ReportSlackBytes _ _ refl refl (integer_is_kept s.options.report_slack_bytes (omega (arith, are.slack_bytes_high)))
     (follow _ key.ReportSlackUs _ _ refl refl (integer_is_kept s.options.report_slack_us (omega (arith, are.slack_us_high)))
+    (follow _ key.ResetRtt _ _ refl refl (boolean_is_kept s.options.reset_rtt)
     (follow _ key.Role _ _ refl refl (role_is_kept s.role)
     (follow _ key.SampleElicitingOnly _ _ refl refl (boolean_is_kept s.options.sample_eliciting_only)
-    (follow _ key.TimerEarlyUs _ _ refl refl (integer_is_kept s.options.timer_early_us (omega (arith, are.early_high))) more))))))
+    (follow _ key.ThresholdCounts _ _ refl refl (counts_are_kept s.options.threshold_counts)
+    (follow _ key.TimeThresholdEighths _ _ refl refl (integer_is_kept s.options.time_threshold_eighths (omega (arith, are.eighths_high)))
+    (follow _ key.TimerEarlyUs _ _ refl refl (integer_is_kept s.options.timer_early_us (omega (arith, are.early_high))) more))))))))))
 
 pub third_follows : (s : Settings) (limit : Option ℕ) → AreInRange (third s limit) → Follow [] (header_pairs (third s limit))
 third_follows s None are = third_begins (third s None) _ are (third_goes_on s None _ are (third_ends s _ refl))
@@ -555,7 +623,7 @@ event_is_said (Metrics t v) proper = ap (λ ps. object_says reader_named (object
 first_is_said : (s : Settings) → AreInRange (first s) → object_says reader_named (object_of (header_pairs (first s))) ≡ Ok (line.Header (first s))
 first_is_said s are =
     let d = object_of (header_pairs (first s)) in
-    header_found (members (header_pairs (first s))) 1 no_options Must s.role Microseconds NewReno s.max_datagram_size (Some s.max_ack_delay) (Some s.initial_rtt) (Some s.initial_window) (first s) (first s)
+    header_found (members (header_pairs (first s))) 1 no_options Must Numbers 9 s.role Microseconds NewReno s.max_datagram_size (Some s.max_ack_delay) (Some s.initial_rtt) (Some s.initial_window) (first s) (first s)
     refl refl refl (first_unit_found d refl) refl refl refl refl (first_options_found d refl) (settings_read (first s) are) refl
 
 second_is_said : (s : Settings) (limit : Option ℕ) (refresh : Bool) (slack_us slack_bytes : ℕ) → AreInRange (second s limit refresh slack_us slack_bytes)
@@ -565,7 +633,7 @@ second_is_said s limit refresh slack_us slack_bytes are =
     let d = object_of (header_pairs t) in
     let at_version = version_at s limit refresh slack_us slack_bytes in
     let asked = version_two_options_found d limit (Some refresh) (Some slack_us) (Some slack_bytes) at_version (limit_at s limit refresh slack_us slack_bytes) refl refl refl in
-    header_found (members (header_pairs t)) 2 t.options Must s.role Microseconds NewReno s.max_datagram_size (Some s.max_ack_delay) (Some s.initial_rtt) (Some s.initial_window) (first s) t
+    header_found (members (header_pairs t)) 2 t.options Must Numbers 9 s.role Microseconds NewReno s.max_datagram_size (Some s.max_ack_delay) (Some s.initial_rtt) (Some s.initial_window) (first s) t
     refl at_version refl (second_unit_found d at_version) refl refl refl refl asked (settings_read t are) (options_pass s limit refresh slack_us slack_bytes are)
 
 third_is_said : (s : Settings) (limit : Option ℕ) → AreInRange (third s limit)
@@ -577,8 +645,9 @@ third_is_said s limit are =
     let at_version = third_version_at s limit in
     let asked = version_three_options_found d limit (Some o.refresh_min_rtt) (Some o.report_slack_us) (Some o.report_slack_bytes)
     (Some o.window_overshoot) (Some o.sample_eliciting_only) (Some o.packet_threshold) (Some o.timer_early_us) (Some o.loss_by_number)
-    at_version (third_limit_at s limit) refl refl refl (third_overshoot_at s limit) refl refl refl refl in
-    header_found (members (header_pairs t)) 3 (record t.options { controller = NewReno; loss_by_number = Must }) o.loss_by_number s.role s.unit s.options.controller s.max_datagram_size (Some s.max_ack_delay) (Some s.initial_rtt) (Some s.initial_window) (started s) t
+    (Some o.threshold_counts) (Some o.reset_rtt) (Some o.latest_rtt_less_delay) (Some o.time_threshold_eighths) (Some o.recovery_by_order)
+    at_version (third_limit_at s limit) refl refl refl (third_overshoot_at s limit) refl refl refl refl refl refl refl refl refl in
+    header_found (members (header_pairs t)) 3 (record t.options { controller = NewReno; loss_by_number = Must; threshold_counts = Numbers; time_threshold_eighths = 9 }) o.loss_by_number o.threshold_counts o.time_threshold_eighths s.role s.unit s.options.controller s.max_datagram_size (Some s.max_ack_delay) (Some s.initial_rtt) (Some s.initial_window) (started s) t
     refl at_version refl (third_unit_found d (Some s.unit) (Some s.options.controller) at_version (third_unit_at s limit) (third_window_at s limit)) refl refl refl refl asked (settings_read t are) (version_three_options_pass s limit are)
 
 header_is_said : (s : Settings) → AreInRange s → object_says reader_named (object_of (header_pairs s)) ≡ Ok (line.Header s)

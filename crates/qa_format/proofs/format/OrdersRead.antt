@@ -19,10 +19,12 @@ use Rattle.qa_format.specs.declared.line.Line.TheVariants as line
 use Rattle.qa_base.specs.declared.space.Permission.{Permission}
 use Rattle.qa_base.specs.declared.space.Permission.TheVariants.{Window}
 use Rattle.qa_base.specs.values.Constants.{default_initial_rtt, default_max_ack_delay}
-use Rattle.qa_base.specs.values.Names.{key_name, role_name, unit_name, controller_name, loss_by_number_name, unit_named, controller_named, loss_by_number_named, permission_name, permission_named}
+use Rattle.qa_base.specs.values.Names.{key_name, role_name, unit_name, controller_name, loss_by_number_name, unit_named, controller_named, loss_by_number_named, threshold_counts_name, threshold_counts_named, permission_name, permission_named}
 use Rattle.qa_format.specs.format.Proper.{IsProperEvent}
 use Rattle.qa_base.specs.declared.space.LossByNumber.{LossByNumber}
 use Rattle.qa_base.specs.declared.space.LossByNumber.TheVariants.{Must}
+use Rattle.qa_base.specs.declared.space.ThresholdCounts.{ThresholdCounts}
+use Rattle.qa_base.specs.declared.space.ThresholdCounts.TheVariants.{Numbers}
 use Rattle.qa_base.specs.declared.space.Controller.{Controller}
 use Rattle.qa_base.specs.declared.space.Controller.TheVariants.{NewReno}
 use Rattle.qa_base.specs.declared.space.TimeUnit.{TimeUnit}
@@ -32,12 +34,12 @@ use Rattle.qa_format.specs.format.AnyOrder.{IsAmong, AreOfLine, event_defaults, 
 use Rattle.qa_format.specs.format.Keys.{◌>>=◌, string_among, string_naming}
 use Rattle.qa_format.specs.format.Reading.{reader_named, object_says, reading_by, reading}
 use Rattle.qa_format.specs.format.Simple.{IsBefore, HaveSimple, IsKept, AreKept, put_all}
-use Rattle.qa_format.specs.format.Tables.{unit_and_window, options, settings, of_version, with_losses}
+use Rattle.qa_format.specs.format.Tables.{unit_and_window, options, nothing_behind, settings, of_version, with_losses, with_counts, with_eighths}
 use Rattle.qa_format.specs.format.Written as written
 use Rattle.qa_format.specs.format.Written.{Pairs, header_pairs, event_pairs, members}
 use Rattle.qa_format.proofs.format.AnyOrder.{json_of-members, get_put, get_put_other}
 use Rattle.qa_format.proofs.format.KeysFound.{header_found, first_unit_found, second_unit_found, third_unit_found, first_options_found, version_two_options_found, version_three_options_found, sent_found, ack_found, lost_found, timer_found, discard_found, confirmed_found, keys_found, metrics_found}
-use Rattle.qa_format.proofs.format.KeysWritten.{unit_reads, controller_reads, losses_read, permission_reads, Follow}
+use Rattle.qa_format.proofs.format.KeysWritten.{unit_reads, controller_reads, losses_read, counts_read, permission_reads, Follow}
 use Rattle.qa_format.proofs.format.LinesWritten.{started, first, second, third, of_each, settings_read, options_pass, version_three_options_pass, limit_at, version_at, third_limit_at, third_unit_at, third_window_at, third_version_at, third_overshoot_at, first_follows, second_follows, third_follows, event_follows, metrics_pairs_are, event_found, time_found, window_found, ssthresh_found, bytes_in_flight_found, latest_rtt_found, min_rtt_found, smoothed_rtt_found, rttvar_found}
 use Rattle.qa_format.proofs.format.PlainTexts.{key_is_ascii}
 
@@ -244,11 +246,18 @@ same_losses : (l m : LossByNumber) → losses_data l ≡ losses_data m → l ≡
 same_losses l m e =
     let both : Ok (Some l) ≡ Ok (Some m) = sym (losses_read key.LossByNumber l) ∙ ap (string_naming loss_by_number_named key.LossByNumber) e ∙ losses_read key.LossByNumber m in cc
 
+abbrev counts_data : ThresholdCounts → Data
+counts_data t = written.string (threshold_counts_name t)
+
+same_counts : (t u : ThresholdCounts) → counts_data t ≡ counts_data u → t ≡ u
+same_counts t u e =
+    let both : Ok (Some t) ≡ Ok (Some u) = sym (counts_read key.ThresholdCounts t) ∙ ap (string_naming threshold_counts_named key.ThresholdCounts) e ∙ counts_read key.ThresholdCounts u in cc
+
 events_rise : Rise (members event_defaults)
 events_rise = ((refl, (refl, tt)), ((refl, tt), (tt, tt)))
 
 header_rises : (unit : TimeUnit) (size : ℕ) → Rise (members (header_defaults unit size))
-header_rises unit size = ((refl, (refl, (refl, (refl, (refl, (refl, (refl, (refl, (refl, (refl, (refl, (refl, tt)))))))))))), ((refl, (refl, (refl, (refl, (refl, (refl, (refl, (refl, (refl, (refl, (refl, tt))))))))))), ((refl, (refl, (refl, (refl, (refl, (refl, (refl, (refl, (refl, (refl, tt)))))))))), ((refl, (refl, (refl, (refl, (refl, (refl, (refl, (refl, (refl, tt))))))))), ((refl, (refl, (refl, (refl, (refl, (refl, (refl, (refl, tt)))))))), ((refl, (refl, (refl, (refl, (refl, (refl, (refl, tt))))))), ((refl, (refl, (refl, (refl, (refl, (refl, tt)))))), ((refl, (refl, (refl, (refl, (refl, tt))))), ((refl, (refl, (refl, (refl, tt)))), ((refl, (refl, (refl, tt))), ((refl, (refl, tt)), ((refl, tt), (tt, tt)))))))))))))
+header_rises unit size = ((refl, (refl, (refl, (refl, (refl, (refl, (refl, (refl, (refl, (refl, (refl, (refl, (refl, (refl, (refl, (refl, (refl, tt))))))))))))))))), ((refl, (refl, (refl, (refl, (refl, (refl, (refl, (refl, (refl, (refl, (refl, (refl, (refl, (refl, (refl, (refl, tt)))))))))))))))), ((refl, (refl, (refl, (refl, (refl, (refl, (refl, (refl, (refl, (refl, (refl, (refl, (refl, (refl, (refl, tt))))))))))))))), ((refl, (refl, (refl, (refl, (refl, (refl, (refl, (refl, (refl, (refl, (refl, (refl, (refl, (refl, tt)))))))))))))), ((refl, (refl, (refl, (refl, (refl, (refl, (refl, (refl, (refl, (refl, (refl, (refl, (refl, tt))))))))))))), ((refl, (refl, (refl, (refl, (refl, (refl, (refl, (refl, (refl, (refl, (refl, (refl, tt)))))))))))), ((refl, (refl, (refl, (refl, (refl, (refl, (refl, (refl, (refl, (refl, (refl, tt))))))))))), ((refl, (refl, (refl, (refl, (refl, (refl, (refl, (refl, (refl, (refl, tt)))))))))), ((refl, (refl, (refl, (refl, (refl, (refl, (refl, (refl, (refl, tt))))))))), ((refl, (refl, (refl, (refl, (refl, (refl, (refl, (refl, tt)))))))), ((refl, (refl, (refl, (refl, (refl, (refl, (refl, tt))))))), ((refl, (refl, (refl, (refl, (refl, (refl, tt)))))), ((refl, (refl, (refl, (refl, (refl, tt))))), ((refl, (refl, (refl, (refl, tt)))), ((refl, (refl, (refl, tt))), ((refl, (refl, tt)), ((refl, tt), (tt, tt))))))))))))))))))
 
 -- ---- headers
 
@@ -269,8 +278,9 @@ header_given : (t : Settings) (n : ℕ) (own ps : Pairs) → AreInRange t → Fo
     → get_member (codes "initial_rtt") (members own) ≡ Some (written.integer t.initial_rtt)
     → get_member (codes "initial_window") (members own) ≡ Some (written.integer t.initial_window)
     → unit_and_window (object (put_all no_members (members ps))) ≡ Ok (t.unit, t.options.controller)
-    → options (object (put_all no_members (members ps))) ≡ Ok (record t.options { controller = NewReno; loss_by_number = Must }, Some t.options.loss_by_number)
-    → (of_version n (record t.options { loss_by_number = Must }) (started t) >>= with_losses (Some t.options.loss_by_number)) ≡ Ok t
+    → options (object (put_all no_members (members ps)))
+    ≡ Ok (record t.options { controller = NewReno; loss_by_number = Must; threshold_counts = Numbers; time_threshold_eighths = 9 }, ((Some t.options.loss_by_number, Some t.options.threshold_counts), t.options.time_threshold_eighths))
+    → (of_version n (record t.options { loss_by_number = Must; threshold_counts = Numbers; time_threshold_eighths = 9 }) (started t) >>= with_losses (Some t.options.loss_by_number) >>= with_counts (Some t.options.threshold_counts) >>= with_eighths t.options.time_threshold_eighths) ≡ Ok t
     → reading (text_of ps) ≡ Ok (line.Header t)
 header_given t n own ps in_range follows are named at_version at_role at_size at_delay at_rtt at_window times asks of =
     let defaults = header_defaults t.unit t.max_datagram_size in
@@ -281,7 +291,7 @@ header_given t n own ps in_range follows are named at_version at_role at_size at
     let rtt = integer_at (in_unit t.unit default_initial_rtt) (codes "initial_rtt") t.initial_rtt same_integer at_rtt refl in
     let window = integer_at (default_window t.max_datagram_size) (codes "initial_window") t.initial_window same_integer at_window refl in
     text_reads own defaults ps follows rise are (line.Header t)
-    (header_found (put_all no_members (members ps)) n (record t.options { controller = NewReno; loss_by_number = Must }) t.options.loss_by_number t.role t.unit t.options.controller t.max_datagram_size delay.0 rtt.0 window.0 (started t) t
+    (header_found (put_all no_members (members ps)) n (record t.options { controller = NewReno; loss_by_number = Must; threshold_counts = Numbers; time_threshold_eighths = 9 }) t.options.loss_by_number t.options.threshold_counts t.options.time_threshold_eighths t.role t.unit t.options.controller t.max_datagram_size delay.0 rtt.0 window.0 (started t) t
     (at (codes "event") _ named refl)
     (at (codes "version") _ at_version refl)
     (at (codes "role") _ at_role refl)
@@ -323,12 +333,12 @@ second_order_reads s ps limit refresh slack_us slack_bytes in_range are =
     let refreshes = optional_given own defaults ps follows rise are written.boolean no_options.refresh_min_rtt (codes "refresh_min_rtt") refresh same_boolean refl refl in
     let times = optional_given own defaults ps follows rise are written.integer no_options.report_slack_us (codes "report_slack_us") slack_us same_integer refl refl in
     let bytes = optional_given own defaults ps follows rise are written.integer no_options.report_slack_bytes (codes "report_slack_bytes") slack_bytes same_integer refl refl in
-    let asks : options d ≡ Ok (t.options, Some Must) =
+    let asks : options d ≡ Ok (t.options, nothing_behind) =
     version_two_options_found d limit refreshes.0 times.0 bytes.0 at_version at_limit refreshes.1 times.1 bytes.1
-    ∙ ap (λ o. Ok (o, Some Must)) (options_given limit refreshes.0 times.0 bytes.0 t.options refl refreshes.2 times.2 bytes.2) in
+    ∙ ap (λ o. Ok (o, nothing_behind)) (options_given limit refreshes.0 times.0 bytes.0 t.options refl refreshes.2 times.2 bytes.2) in
     header_given t 2 own ps in_range follows are refl own_version refl refl refl refl refl (second_unit_found d at_version) asks (options_pass s limit refresh slack_us slack_bytes in_range)
 
-version_three_options_given : (limit : Option ℕ) (refresh : Option Bool) (slack_us slack_bytes : Option ℕ) (overshoot eliciting : Option Bool) (threshold early : Option ℕ) (o : Options)
+version_three_options_given : (limit : Option ℕ) (refresh : Option Bool) (slack_us slack_bytes : Option ℕ) (overshoot eliciting : Option Bool) (threshold early : Option ℕ) (reset less order : Option Bool) (o : Options)
     → limit ≡ o.timer_late
     → unwrap_or refresh no_options.refresh_min_rtt ≡ o.refresh_min_rtt
     → unwrap_or slack_us no_options.report_slack_us ≡ o.report_slack_us
@@ -337,6 +347,9 @@ version_three_options_given : (limit : Option ℕ) (refresh : Option Bool) (slac
     → unwrap_or eliciting no_options.sample_eliciting_only ≡ o.sample_eliciting_only
     → unwrap_or threshold no_options.packet_threshold ≡ o.packet_threshold
     → unwrap_or early no_options.timer_early_us ≡ o.timer_early_us
+    → unwrap_or reset no_options.reset_rtt ≡ o.reset_rtt
+    → unwrap_or less no_options.latest_rtt_less_delay ≡ o.latest_rtt_less_delay
+    → unwrap_or order no_options.recovery_by_order ≡ o.recovery_by_order
     → record no_options {
       timer_late = limit;
       refresh_min_rtt = unwrap_or refresh false;
@@ -346,9 +359,12 @@ version_three_options_given : (limit : Option ℕ) (refresh : Option Bool) (slac
       sample_eliciting_only = unwrap_or eliciting false;
       packet_threshold = unwrap_or threshold 3;
       timer_early_us = unwrap_or early 0;
-    } ≡ record o { controller = NewReno; loss_by_number = Must }
-version_three_options_given limit refresh slack_us slack_bytes overshoot eliciting threshold early o limits refreshes times bytes overshoots samples thresholds earlies =
-    rw (limits, refreshes, times, bytes, overshoots, samples, thresholds, earlies) refl
+      reset_rtt = unwrap_or reset false;
+      latest_rtt_less_delay = unwrap_or less false;
+      recovery_by_order = unwrap_or order false;
+    } ≡ record o { controller = NewReno; loss_by_number = Must; threshold_counts = Numbers; time_threshold_eighths = 9 }
+version_three_options_given limit refresh slack_us slack_bytes overshoot eliciting threshold early reset less order o limits refreshes times bytes overshoots samples thresholds earlies resets lesses orders =
+    rw (limits, refreshes, times, bytes, overshoots, samples, thresholds, earlies, resets, lesses, orders) refl
 
 third_order_reads : (s : Settings) (ps : Pairs) (limit : Option ℕ) → AreInRange (third s limit) → AreOfHeader (third s limit) ps
     → reading (text_of ps) ≡ Ok (line.Header (third s limit))
@@ -374,13 +390,18 @@ third_order_reads s ps limit in_range are =
     let samples = boolean_at no_options.sample_eliciting_only (codes "sample_eliciting_only") o.sample_eliciting_only same_boolean refl refl in
     let thresholds = integer_at no_options.packet_threshold (codes "packet_threshold") o.packet_threshold same_integer refl refl in
     let earlies = integer_at no_options.timer_early_us (codes "timer_early_us") o.timer_early_us same_integer refl refl in
+    let resets = boolean_at no_options.reset_rtt (codes "reset_rtt") o.reset_rtt same_boolean refl refl in
+    let lesses = boolean_at no_options.latest_rtt_less_delay (codes "latest_rtt_less_delay") o.latest_rtt_less_delay same_boolean refl refl in
+    let orders = boolean_at no_options.recovery_by_order (codes "recovery_by_order") o.recovery_by_order same_boolean refl refl in
+    let parts = integer_at no_options.time_threshold_eighths (codes "time_threshold_eighths") o.time_threshold_eighths same_integer refl refl in
     let losses = optional_given own defaults ps follows rise are losses_data Must (codes "loss_by_number") o.loss_by_number same_losses refl refl in
+    let counted = optional_given own defaults ps follows rise are counts_data Numbers (codes "threshold_counts") o.threshold_counts same_counts refl refl in
     let clocks : unit_and_window d ≡ Ok (s.unit, o.controller) = third_unit_found d units.0 windows.0 at_version units.1 windows.1 ∙ ap₂ (λ u w. Ok (u, w)) units.2 windows.2 in
-    let asks : options d ≡ Ok (record t.options { controller = NewReno; loss_by_number = Must }, Some o.loss_by_number) =
-    version_three_options_found d limit refreshes.0 times.0 bytes.0 overshoots.0 samples.0 thresholds.0 earlies.0 losses.0
-    at_version at_limit refreshes.1 times.1 bytes.1 overshoots.1 samples.1 thresholds.1 earlies.1 losses.1
-    ∙ ap₂ (λ p l. Ok (p, Some l)) (version_three_options_given limit refreshes.0 times.0 bytes.0 overshoots.0 samples.0 thresholds.0 earlies.0 t.options
-    refl refreshes.2 times.2 bytes.2 overshoots.2 samples.2 thresholds.2 earlies.2) losses.2 in
+    let asks : options d ≡ Ok (record t.options { controller = NewReno; loss_by_number = Must; threshold_counts = Numbers; time_threshold_eighths = 9 }, ((Some o.loss_by_number, Some o.threshold_counts), o.time_threshold_eighths)) =
+    version_three_options_found d limit refreshes.0 times.0 bytes.0 overshoots.0 samples.0 thresholds.0 earlies.0 losses.0 counted.0 resets.0 lesses.0 parts.0 orders.0
+    at_version at_limit refreshes.1 times.1 bytes.1 overshoots.1 samples.1 thresholds.1 earlies.1 losses.1 counted.1 resets.1 lesses.1 parts.1 orders.1
+    ∙ ap₂ (λ p b. Ok (p, b)) (version_three_options_given limit refreshes.0 times.0 bytes.0 overshoots.0 samples.0 thresholds.0 earlies.0 resets.0 lesses.0 orders.0 t.options
+    refl refreshes.2 times.2 bytes.2 overshoots.2 samples.2 thresholds.2 earlies.2 resets.2 lesses.2 orders.2) (ap₂ (λ w n. (w, n)) (ap₂ (λ l t. (Some l, Some t)) losses.2 counted.2) parts.2) in
     header_given t 3 own ps in_range follows are refl own_version refl refl refl refl refl clocks asks (version_three_options_pass s limit in_range)
 
 -- a header is read from its keys and values in any order, and with or without its defaults

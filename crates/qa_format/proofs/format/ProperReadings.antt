@@ -1,6 +1,6 @@
 -- What the reading of lines gives is such as there is.
 use Rattle.std.proofs.Common.{◌≡◌, ℕ, ◌≤◌, ◌*◌, List, Bool, true, false, cond, Option, Some, None, Result, Ok, Err, ok_or, refl, ◌&&◌, ◌||◌, not, arith, ◌⊎◌, inl, inr}
-use Rattle.std.specs.Prelude.{◌==◌, nat_lt, codes, bytes_eq, is_some, option_map, unwrap_or}
+use Rattle.std.specs.Prelude.{if◌then◌else◌, ◌==◌, nat_lt, codes, bytes_eq, is_some, option_map, unwrap_or}
 use Rattle.std.specs.List.{list_all}
 use Rattle.std.specs.Option.{ForSome}
 use Rattle.std.proofs.lemmas.Bool.{or_parts, and_from, ltb-false}
@@ -22,6 +22,8 @@ use Rattle.qa_base.specs.declared.header.Version.TheVariants.{One, Two, Three}
 use Rattle.qa_base.specs.declared.rule.Field.TheVariants.{Window, Ssthresh, BytesInFlight, LatestRtt, MinRtt, SmoothedRtt, Rttvar}
 use Rattle.qa_base.specs.declared.space.LossByNumber.{LossByNumber}
 use Rattle.qa_base.specs.declared.space.LossByNumber.TheVariants.{Must, May}
+use Rattle.qa_base.specs.declared.space.ThresholdCounts.{ThresholdCounts}
+use Rattle.qa_base.specs.declared.space.ThresholdCounts.TheVariants.{Numbers, Packets}
 use Rattle.qa_base.specs.declared.space.Space.{Space}
 use Rattle.qa_base.specs.declared.space.Space.TheVariants.{Initial, Handshake, App}
 use Rattle.qa_base.specs.declared.space.Role.{Role}
@@ -33,12 +35,12 @@ use Rattle.qa_base.specs.declared.line_kind.LineKind.{LineKind}
 use Rattle.qa_base.specs.declared.line_kind.LineKind.TheVariants as kinds
 use Rattle.qa_base.specs.values.Events.{is_space}
 use Rattle.qa_format.specs.format.Keys.{◌>>=◌, both, ranged, string, string_among, required}
-use Rattle.qa_base.specs.values.Limits.{max_time, max_packet_number, max_packet_size, max_timer_late, max_report_slack_us, max_report_slack_bytes, min_packet_threshold, max_packet_threshold, max_timer_early_us}
+use Rattle.qa_base.specs.values.Limits.{max_time, max_packet_number, max_packet_size, max_timer_late, max_report_slack_us, max_report_slack_bytes, min_packet_threshold, max_packet_threshold, max_timer_early_us, min_time_threshold_eighths, max_time_threshold_eighths}
 use Rattle.qa_base.specs.values.Names.{line_kind_named, discarded_named}
 use Rattle.qa_format.specs.format.Proper.{AreWords, IsProperEvent, IsProperLine}
 use Rattle.qa_format.specs.format.Reading.{Reader, header_line, event_line, reader_of, reader_named, object_says, json_of, is_blank, reading_by, reading}
 use Rattle.qa_base.specs.values.Settings.{Settings, AreInRange, IsSaidIn, fit_version_two, is_outside, in_unit, default_window, no_options, checked, version_in, settings_in, version_with, spares_unreported, in_version, with_options, choosing_options}
-use Rattle.qa_format.specs.format.Tables.{time, out_of_range, header_fields, options, settings, of_version, with_losses, header_of, sent_fields, sent_of, ack_fields, ack_of, lost_fields, lost_of, timer_fields, timer_of, discard_fields, discard_of, confirmed_of, keys_of, metric, metric_values, metrics_of}
+use Rattle.qa_format.specs.format.Tables.{time, out_of_range, header_fields, options, settings, of_version, with_losses, with_counts, with_eighths, header_of, sent_fields, sent_of, ack_fields, ack_of, lost_fields, lost_of, timer_fields, timer_of, discard_fields, discard_of, confirmed_of, keys_of, metric, metric_values, metrics_of}
 use Rattle.qa_format.specs.format.Written.{line_fits}
 use Rattle.qa_format.proofs.format.KeysRead.{bind_ok, both_ok, ok_is, required_stands, required_within, required_high, optional_is_word, present_is_word, ranges_are}
 use Rattle.qa_format.proofs.format.Sized.{IsSized, read-IsSized}
@@ -213,6 +215,8 @@ checked_is_in_range s t none said h =
       threshold_low = rw none (omega arith);
       threshold_high = rw none (omega arith);
       early_high = rw none (omega arith);
+      eighths_low = rw none (omega arith);
+      eighths_high = rw none (omega arith);
       spared_reported = rw none refl;
       first_version = λ first. none;
       said = said;
@@ -245,7 +249,8 @@ in_version_is v s t o h =
     let threshold = past (is_outside min_packet_threshold max_packet_threshold o.packet_threshold) _ _ t slack_bytes.1 in
     let early = past (is_outside 0 max_timer_early_us o.timer_early_us) _ _ t threshold.1 in
     let spared = past (spares_unreported o) _ _ t early.1 in
-    ok_is_settings _ t spared.1
+    let eighths = past (is_outside min_time_threshold_eighths max_time_threshold_eighths o.time_threshold_eighths) _ _ t spared.1 in
+    ok_is_settings _ t eighths.1
 
 -- and they are in them
 in_version_in_range : (v : Version) (s t : Settings) (o : Options) → AreInRange s → IsSaidIn v s.unit o → in_version v s o ≡ Ok t → AreInRange t
@@ -256,11 +261,13 @@ in_version_in_range v s t o are said h =
     let threshold = past (is_outside min_packet_threshold max_packet_threshold o.packet_threshold) _ _ t slack_bytes.1 in
     let early = past (is_outside 0 max_timer_early_us o.timer_early_us) _ _ t threshold.1 in
     let spared = past (spares_unreported o) _ _ t early.1 in
+    let eighths = past (is_outside min_time_threshold_eighths max_time_threshold_eighths o.time_threshold_eighths) _ _ t spared.1 in
     let late_in = inside 0 max_timer_late (unwrap_or o.timer_late 0) late.0 in
     let slack_us_in = inside 0 max_report_slack_us o.report_slack_us slack_us.0 in
     let slack_bytes_in = inside 0 max_report_slack_bytes o.report_slack_bytes slack_bytes.0 in
     let threshold_in = inside min_packet_threshold max_packet_threshold o.packet_threshold threshold.0 in
     let early_in = inside 0 max_timer_early_us o.timer_early_us early.0 in
+    let eighths_in = inside min_time_threshold_eighths max_time_threshold_eighths o.time_threshold_eighths eighths.0 in
     rw (← in_version_is v s t o h) (record {
       datagram_low = are.datagram_low;
       datagram_high = are.datagram_high;
@@ -275,6 +282,8 @@ in_version_in_range v s t o are said h =
       threshold_low = threshold_in.0;
       threshold_high = threshold_in.1;
       early_high = early_in.1;
+      eighths_low = eighths_in.0;
+      eighths_high = eighths_in.1;
       spared_reported = spared.0;
       first_version = said_first v s.unit o said;
       said = said;
@@ -339,6 +348,23 @@ with_losses_in_range (Some May) s t are h =
     let chosen : Options = record s.options { loss_by_number = May } in
     in_version_in_range Three s t chosen are tt (unmapped (choosing_options s chosen) t h)
 
+with_counts_in_range : (counts : Option ThresholdCounts) (s t : Settings) → AreInRange s → with_counts counts s ≡ Ok t → AreInRange t
+with_counts_in_range None s t are h = cc
+with_counts_in_range (Some Numbers) s t are h = let same : s ≡ t = cc in rw (← same) are
+with_counts_in_range (Some Packets) s t are h =
+    let chosen : Options = record s.options { threshold_counts = Packets } in
+    in_version_in_range Three s t chosen are tt (unmapped (choosing_options s chosen) t h)
+
+eighths_if : (is_default : Bool) (n : ℕ) (s t : Settings) → AreInRange s
+    → (if is_default then Ok s else out_of_range (choosing_options s (record s.options { time_threshold_eighths = n }))) ≡ Ok t → AreInRange t
+eighths_if true n s t are h = let same : s ≡ t = cc in rw (← same) are
+eighths_if false n s t are h =
+    let chosen : Options = record s.options { time_threshold_eighths = n } in
+    in_version_in_range Three s t chosen are tt (unmapped (choosing_options s chosen) t h)
+
+with_eighths_in_range : (n : ℕ) (s t : Settings) → AreInRange s → with_eighths n s ≡ Ok t → AreInRange t
+with_eighths_in_range n s t are h = eighths_if (n == 9) n s t are h
+
 header_is_proper : (d : Data) (s : Settings) → header_of d ≡ Ok s → AreInRange s
 unfolding header_of
 header_is_proper d s h =
@@ -346,11 +372,17 @@ header_is_proper d s h =
     let f = read.0.0 in
     let asked : Options = record read.0.1.0 { controller = f.1.0.1 } in
     let started = settings f.1.0.0 f.0.1 f.1.1.0.0 f.1.1.0.1 f.1.1.1.0 f.1.1.1.1 in
-    let last = bind_ok (started >>= of_version f.0.0 asked) (with_losses read.0.1.1) s read.2 in
-    let set = bind_ok started (of_version f.0.0 asked) last.0 last.1 in
-    with_losses_in_range read.0.1.1 last.0 s
-    (of_version_in_range f.0.0 asked set.0 last.0 (set_is_in_range f.1.0.0 f.0.1 f.1.1.0.0 f.1.1.0.1 f.1.1.1.0 f.1.1.1.1 set.0 set.1) set.2)
-    last.2
+    let behind = read.0.1.1 in
+    let words = behind.0 in
+    let last = bind_ok (started >>= of_version f.0.0 asked >>= with_losses words.0 >>= with_counts words.1) (with_eighths behind.1) s read.2 in
+    let counted = bind_ok (started >>= of_version f.0.0 asked >>= with_losses words.0) (with_counts words.1) last.0 last.1 in
+    let spared = bind_ok (started >>= of_version f.0.0 asked) (with_losses words.0) counted.0 counted.1 in
+    let set = bind_ok started (of_version f.0.0 asked) spared.0 spared.1 in
+    with_eighths_in_range behind.1 last.0 s
+    (with_counts_in_range words.1 counted.0 last.0
+    (with_losses_in_range words.0 spared.0 counted.0
+    (of_version_in_range f.0.0 asked set.0 spared.0 (set_is_in_range f.1.0.0 f.0.1 f.1.1.0.0 f.1.1.0.1 f.1.1.1.0 f.1.1.1.1 set.0 set.1) set.2)
+    spared.2) counted.2) last.2
 
 -- ---- a line
 

@@ -12,7 +12,7 @@ use Rattle.qa_base.specs.declared.space.TimeUnit.{TimeUnit}
 use Rattle.qa_base.specs.declared.space.TimeUnit.TheVariants.{Microseconds}
 use Rattle.qa_base.specs.values.Constants.{default_initial_rtt, default_max_ack_delay}
 use Rattle.qa_base.specs.values.Names.{permission_name, unit_name, controller_name}
-use Rattle.qa_base.specs.values.Names.{loss_by_number_name}
+use Rattle.qa_base.specs.values.Names.{loss_by_number_name, threshold_counts_name}
 use Rattle.qa_base.specs.values.Settings.{Settings, in_unit, default_window, no_options}
 use Rattle.qa_format.specs.format.Written.{Pairs, integer, string, boolean, header_pairs}
 use Rattle.qa_format.specs.format.Written.{event_pairs, object_of}
@@ -48,13 +48,18 @@ abbrev pub header_defaults : TimeUnit → ℕ → Pairs
 header_defaults unit max_datagram_size =
     (key.InitialRtt, integer (in_unit unit default_initial_rtt))
     ∷ (key.InitialWindow, integer (default_window max_datagram_size))
+    ∷ (key.LatestRttLessDelay, boolean no_options.latest_rtt_less_delay)
     ∷ (key.LossByNumber, string (loss_by_number_name no_options.loss_by_number))
     ∷ (key.MaxAckDelay, integer (in_unit unit default_max_ack_delay))
     ∷ (key.PacketThreshold, integer no_options.packet_threshold)
+    ∷ (key.RecoveryByOrder, boolean no_options.recovery_by_order)
     ∷ (key.RefreshMinRtt, boolean no_options.refresh_min_rtt)
     ∷ (key.ReportSlackBytes, integer no_options.report_slack_bytes)
     ∷ (key.ReportSlackUs, integer no_options.report_slack_us)
+    ∷ (key.ResetRtt, boolean no_options.reset_rtt)
     ∷ (key.SampleElicitingOnly, boolean no_options.sample_eliciting_only)
+    ∷ (key.ThresholdCounts, string (threshold_counts_name no_options.threshold_counts))
+    ∷ (key.TimeThresholdEighths, integer no_options.time_threshold_eighths)
     ∷ (key.TimerEarlyUs, integer no_options.timer_early_us)
     ∷ (key.Unit, string (unit_name Microseconds))
     ∷ (key.Window, string (controller_name no_options.controller))

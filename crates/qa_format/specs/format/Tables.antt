@@ -22,6 +22,8 @@ use Rattle.qa_base.specs.declared.space.Controller.{Controller}
 use Rattle.qa_base.specs.declared.space.Controller.TheVariants.{NewReno}
 use Rattle.qa_base.specs.declared.space.LossByNumber.{LossByNumber}
 use Rattle.qa_base.specs.declared.space.LossByNumber.TheVariants.{Must, May}
+use Rattle.qa_base.specs.declared.space.ThresholdCounts.{ThresholdCounts}
+use Rattle.qa_base.specs.declared.space.ThresholdCounts.TheVariants.{Numbers, Packets}
 use Rattle.qa_base.specs.declared.space.TimerKind.{TimerKind}
 use Rattle.qa_base.specs.declared.space.Permission.{Permission}
 use Rattle.qa_base.specs.declared.space.Permission.TheVariants as leaves
@@ -33,9 +35,11 @@ use Rattle.qa_format.specs.format.Keys.{◌>>=◌, both, integer, integer_from, 
 use Rattle.qa_format.specs.format.Keys.{string_naming, boolean, ranges, required, optional}
 use Rattle.qa_format.specs.format.Keys.{if_present}
 use Rattle.qa_base.specs.values.Constants.{default_packet_threshold}
+use Rattle.qa_base.specs.values.Constants.{default_time_threshold_eighths}
 use Rattle.qa_base.specs.values.Limits.{max_time, max_packet_number, max_packet_size}
 use Rattle.qa_base.specs.values.Names.{version_number, role_named, unit_named, controller_named}
-use Rattle.qa_base.specs.values.Names.{loss_by_number_named, space_named, discarded_named}
+use Rattle.qa_base.specs.values.Names.{loss_by_number_named, threshold_counts_named, space_named}
+use Rattle.qa_base.specs.values.Names.{discarded_named}
 use Rattle.qa_base.specs.values.Names.{permission_named, kind_named}
 use Rattle.qa_base.specs.values.Settings.{Settings, no_options, settings_in, with_options}
 use Rattle.qa_base.specs.values.Settings.{choosing_options}
@@ -87,18 +91,38 @@ option_fields d =
     both (both (if_present integer key.TimerLateUs d) (optional boolean false key.RefreshMinRtt d))
     (both (optional integer 0 key.ReportSlackUs d) (optional integer 0 key.ReportSlackBytes d))
 
--- window_overshoot and sample_eliciting_only, packet_threshold and timer_early_us, likewise; and
--- loss_by_number, whose word is judged behind all numbers: what it names, if anything
-abbrev pub choice_fields : Data → Result ((Bool × Bool) × ((ℕ × ℕ) × Option LossByNumber)) Fault
+-- what the words for losses by number and for what the packet threshold counts name, if anything:
+-- they are judged behind all numbers before them
+abbrev pub Words : Type 0
+Words = Option LossByNumber × Option ThresholdCounts
+
+-- window_overshoot and sample_eliciting_only, packet_threshold and timer_early_us, likewise; the
+-- words of loss_by_number and threshold_counts; reset_rtt and latest_rtt_less_delay; and
+-- time_threshold_eighths and recovery_by_order
+abbrev pub choice_fields : Data
+    → Result ((Bool × Bool) × ((ℕ × ℕ) × (Words × ((Bool × Bool) × (ℕ × Bool))))) Fault
 choice_fields d =
     both (both (optional boolean false key.WindowOvershoot d)
     (optional boolean false key.SampleElicitingOnly d))
     (both (both (optional integer default_packet_threshold key.PacketThreshold d)
     (optional integer 0 key.TimerEarlyUs d))
-    (optional (string_naming loss_by_number_named) (Some Must) key.LossByNumber d))
+    (both (both (optional (string_naming loss_by_number_named) (Some Must) key.LossByNumber d)
+    (optional (string_naming threshold_counts_named) (Some Numbers) key.ThresholdCounts d))
+    (both (both (optional boolean false key.ResetRtt d)
+    (optional boolean false key.LatestRttLessDelay d))
+    (both (optional integer default_time_threshold_eighths key.TimeThresholdEighths d)
+    (optional boolean false key.RecoveryByOrder d)))))
+
+-- options, and what is judged behind them: the words, and the time threshold in eighths
+abbrev pub SaidOptions : Type 0
+SaidOptions = Options × (Words × ℕ)
+
+-- no word and no time threshold
+abbrev pub nothing_behind : Words × ℕ
+nothing_behind = ((Some Must, Some Numbers), default_time_threshold_eighths)
 
 -- the options of version 2, under which losses by number must be declared
-abbrev pub version_two_options : Data → Result (Options × Option LossByNumber) Fault
+abbrev pub version_two_options : Data → Result SaidOptions Fault
 version_two_options d =
     option_fields d >>= λ ((timer_late, refresh_min_rtt), (report_slack_us, report_slack_bytes)).
     Ok (
@@ -108,18 +132,21 @@ version_two_options d =
         report_slack_us = report_slack_us;
         report_slack_bytes = report_slack_bytes;
       },
-      Some Must,
+      nothing_behind,
     )
 
--- the options of version 3, but for the window and for losses by number, which stand beside them
-abbrev pub version_three_options : Data → Result (Options × Option LossByNumber) Fault
+-- the options of version 3, but for the window, and what is judged behind them
+abbrev pub version_three_options : Data → Result SaidOptions Fault
 version_three_options d =
     both (option_fields d) (choice_fields d)
     >>= λ (
       ((timer_late, refresh_min_rtt), (report_slack_us, report_slack_bytes)),
       (
         (window_overshoot, sample_eliciting_only),
-        ((packet_threshold, timer_early_us), by_number),
+        (
+          (packet_threshold, timer_early_us),
+          (words, ((reset_rtt, latest_rtt_less_delay), (time_threshold_eighths, by_order))),
+        ),
       ),
     ).
     Ok (
@@ -132,18 +159,21 @@ version_three_options d =
         sample_eliciting_only = sample_eliciting_only;
         packet_threshold = packet_threshold;
         timer_early_us = timer_early_us;
+        reset_rtt = reset_rtt;
+        latest_rtt_less_delay = latest_rtt_less_delay;
+        recovery_by_order = by_order;
       },
-      by_number,
+      (words, time_threshold_eighths),
     )
 
-abbrev pub options_for : Result ℕ Fault → Data → Result (Options × Option LossByNumber) Fault
+abbrev pub options_for : Result ℕ Fault → Data → Result SaidOptions Fault
 options_for (Ok n) d =
     if n == version_number Two then version_two_options d else
-    (if n == version_number Three then version_three_options d else Ok (no_options, Some Must))
-options_for (Err e) d = Ok (no_options, Some Must)
+    (if n == version_number Three then version_three_options d else Ok (no_options, nothing_behind))
+options_for (Err e) d = Ok (no_options, nothing_behind)
 
 -- the keys of options, of which version 1 has none: they are looked at where the version has them
-abbrev pub options : Data → Result (Options × Option LossByNumber) Fault
+abbrev pub options : Data → Result SaidOptions Fault
 options d = options_for (version d) d
 
 -- the settings in this unit, each in its range
@@ -166,6 +196,19 @@ with_losses (Some Must) s = Ok s
 with_losses (Some May) s =
     out_of_range (choosing_options s (record s.options { loss_by_number = May }))
 
+-- the settings with what the word says that the packet threshold counts, which is judged behind it
+abbrev pub with_counts : Option ThresholdCounts → Settings → Result Settings Fault
+with_counts None s = Err (OutOfRange key.ThresholdCounts)
+with_counts (Some Numbers) s = Ok s
+with_counts (Some Packets) s =
+    out_of_range (choosing_options s (record s.options { threshold_counts = Packets }))
+
+-- the settings with the time threshold of so many eighths, which is judged behind both
+abbrev pub with_eighths : ℕ → Settings → Result Settings Fault
+with_eighths n s =
+    if n == default_time_threshold_eighths then Ok s else out_of_range
+    (choosing_options s (record s.options { time_threshold_eighths = n }))
+
 -- the version is judged after all other keys
 unfoldable pub header_of : Data → Result Settings Fault
 header_of d =
@@ -175,11 +218,13 @@ header_of d =
         (version, role),
         ((unit, controller), ((max_datagram_size, max_ack_delay), (initial_rtt, initial_window))),
       ),
-      (options, by_number),
+      (options, ((by_number, counts), eighths)),
     ).
     settings unit role max_datagram_size max_ack_delay initial_rtt initial_window
     >>= of_version version (record options { controller = controller })
     >>= with_losses by_number
+    >>= with_counts counts
+    >>= with_eighths eighths
 
 -- ---- packets
 

@@ -24,6 +24,7 @@ use Rattle.qa_base.specs.declared.rule.Field.TheVariants.{LatestRtt, MinRtt, Smo
 use Rattle.qa_base.specs.values.Events.{fits}
 use Rattle.qa_base.specs.values.Names.{key_name, line_kind_name, version_number, role_name}
 use Rattle.qa_base.specs.values.Names.{unit_name, controller_name, loss_by_number_name, space_name}
+use Rattle.qa_base.specs.values.Names.{threshold_counts_name}
 use Rattle.qa_base.specs.values.Names.{permission_name, kind_name}
 use Rattle.qa_base.specs.values.Settings.{Settings}
 
@@ -81,14 +82,18 @@ header_pairs s =
     (key.Event, string (line_kind_name kinds.Header))
     ∷ (key.InitialRtt, integer s.initial_rtt)
     ∷ (key.InitialWindow, integer s.initial_window)
-    ∷ in_three s.version ((key.LossByNumber, string (loss_by_number_name s.options.loss_by_number))
-    ∷ [])
+    ∷ in_three s.version ((key.LatestRttLessDelay, boolean s.options.latest_rtt_less_delay)
+    ∷ (key.LossByNumber, string (loss_by_number_name s.options.loss_by_number)) ∷ [])
     ++ (key.MaxAckDelay, integer s.max_ack_delay)
     ∷ (key.MaxDatagramSize, integer s.max_datagram_size)
-    ∷ in_three s.version ((key.PacketThreshold, integer s.options.packet_threshold) ∷ [])
+    ∷ in_three s.version ((key.PacketThreshold, integer s.options.packet_threshold)
+    ∷ (key.RecoveryByOrder, boolean s.options.recovery_by_order) ∷ [])
     ++ option_pairs s.version s.options
+    ++ in_three s.version ((key.ResetRtt, boolean s.options.reset_rtt) ∷ [])
     ++ (key.Role, string (role_name s.role))
     ∷ in_three s.version ((key.SampleElicitingOnly, boolean s.options.sample_eliciting_only)
+    ∷ (key.ThresholdCounts, string (threshold_counts_name s.options.threshold_counts))
+    ∷ (key.TimeThresholdEighths, integer s.options.time_threshold_eighths)
     ∷ (key.TimerEarlyUs, integer s.options.timer_early_us) ∷ [])
     ++ limit_pairs s.options.timer_late
     ++ in_three s.version ((key.Unit, string (unit_name s.unit)) ∷ [])

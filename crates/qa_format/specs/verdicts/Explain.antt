@@ -67,10 +67,6 @@ told_of tell judging ls = told_after tell judging [] ls
 abbrev pub told : Telling → Judging → List ℕ → List ℕ
 told tell judging bytes = told_of tell judging (lines bytes)
 
--- nothing is told of any line
-abbrev pub told_nothing : Telling
-told_nothing n l c h = []
-
 -- ---- the rows of lines
 
 -- the row of line n, which is of this kind, and after which the trace has this header and this

@@ -1,6 +1,6 @@
 -- Edges of which events there are: the size and the flags of a packet, lists of ranges, and discarded spaces.
 use Rattle.std.specs.Prelude.{◌≡◌, true, false, [], ◌∷◌, refl}
-use Rattle.qa_base.specs.declared.event.Event.TheVariants.{Sent, Discard}
+use Rattle.qa_base.specs.declared.event.Event.TheVariants.{Discard}
 use Rattle.qa_base.specs.declared.space.Permission.TheVariants.{Window}
 use Rattle.qa_base.specs.declared.space.Space.TheVariants.{Initial, Handshake, App}
 use Rattle.qa_base.specs.values.Events.{fits}

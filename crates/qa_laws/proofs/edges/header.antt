@@ -23,6 +23,7 @@ out_of_range timer_late report_slack_us report_slack_bytes packet_threshold = re
   report_slack_bytes = report_slack_bytes;
   packet_threshold = packet_threshold;
   timer_early_us = 1000000001;
+  time_threshold_eighths = 8;
 }
 
 -- ---- defaults
@@ -100,7 +101,11 @@ pub ranges_of_options :
     × (choosing_options (client 1200 12000) (record no_options { timer_late = Some 1000000000000000 }) ≡ Ok (record (client 1200 12000) { version = Three; options = record no_options { timer_late = Some 1000000000000000 } }))
     × (choosing_options (client 1200 12000) (record no_options { timer_late = Some 1000000000000001 }) ≡ refused key.TimerLateUs)
     × (choosing_options (in_nanoseconds (client 1200 12000)) (record no_options { timer_early_us = 1000000001 }) ≡ refused key.TimerEarlyUs)
-ranges_of_options = (refl, refl, refl, refl, refl, refl, refl, refl, refl, refl, refl, refl, refl, refl, refl, refl)
+    × (choosing_options (client 1200 12000) (record no_options { time_threshold_eighths = 8 }) ≡ refused key.TimeThresholdEighths)
+    × (choosing_options (client 1200 12000) (record no_options { time_threshold_eighths = 9 }) ≡ Ok (record (client 1200 12000) { version = Three; options = no_options }))
+    × (choosing_options (client 1200 12000) (record no_options { time_threshold_eighths = 32 }) ≡ Ok (record (client 1200 12000) { version = Three; options = record no_options { time_threshold_eighths = 32 } }))
+    × (choosing_options (client 1200 12000) (record no_options { time_threshold_eighths = 33 }) ≡ refused key.TimeThresholdEighths)
+ranges_of_options = (refl, refl, refl, refl, refl, refl, refl, refl, refl, refl, refl, refl, refl, refl, refl, refl, refl, refl, refl, refl)
 
 -- Of several values out of their range the first is named, in the order of the format.
 pub first_value_out_of_its_range_is_named :
@@ -113,7 +118,9 @@ pub first_value_out_of_its_range_is_named :
     × (choosing_options (client 1200 12000) (out_of_range None 0 4294967296 0) ≡ refused key.ReportSlackBytes)
     × (choosing_options (client 1200 12000) (out_of_range None 0 0 0) ≡ refused key.PacketThreshold)
     × (choosing_options (client 1200 12000) (out_of_range None 0 0 3) ≡ refused key.TimerEarlyUs)
-first_value_out_of_its_range_is_named = (refl, refl, refl, refl, refl, refl, refl, refl, refl)
+    × (choosing_options (client 1200 12000) (record (out_of_range None 0 0 3) { timer_early_us = 0; loss_by_number = May }) ≡ refused key.LossByNumber)
+    × (choosing_options (client 1200 12000) (record (out_of_range None 0 0 3) { timer_early_us = 0 }) ≡ refused key.TimeThresholdEighths)
+first_value_out_of_its_range_is_named = (refl, refl, refl, refl, refl, refl, refl, refl, refl, refl, refl)
 
 -- ---- versions
 
@@ -129,9 +136,12 @@ pub a_header_gets_the_first_version_that_says_its_options :
     × (with_options (client 1200 12000) (record no_options { sample_eliciting_only = true }) ≡ Ok (record (client 1200 12000) { version = Three; options = record no_options { sample_eliciting_only = true } }))
     × (with_options (client 1200 12000) (record no_options { packet_threshold = 4 }) ≡ Ok (record (client 1200 12000) { version = Three; options = record no_options { packet_threshold = 4 } }))
     × (with_options (client 1200 12000) (record no_options { timer_early_us = 1 }) ≡ Ok (record (client 1200 12000) { version = Three; options = record no_options { timer_early_us = 1 } }))
+    × (with_options (client 1200 12000) (record no_options { latest_rtt_less_delay = true }) ≡ Ok (record (client 1200 12000) { version = Three; options = record no_options { latest_rtt_less_delay = true } }))
+    × (with_options (client 1200 12000) (record no_options { time_threshold_eighths = 10 }) ≡ Ok (record (client 1200 12000) { version = Three; options = record no_options { time_threshold_eighths = 10 } }))
+    × (with_options (client 1200 12000) (record no_options { recovery_by_order = true }) ≡ Ok (record (client 1200 12000) { version = Three; options = record no_options { recovery_by_order = true } }))
     × (with_options (record (client 1200 12000) { version = Three }) no_options ≡ Ok (record (client 1200 12000) { version = Three }))
     × (choosing_options (client 1200 12000) no_options ≡ Ok (record (client 1200 12000) { version = Three }))
-a_header_gets_the_first_version_that_says_its_options = (refl, refl, refl, refl, refl, refl, refl, refl, refl, refl, refl, refl)
+a_header_gets_the_first_version_that_says_its_options = (refl, refl, refl, refl, refl, refl, refl, refl, refl, refl, refl, refl, refl, refl, refl)
 
 -- Packets may be spared only where the window is a reported one, and only version 3 says so. It is judged behind all numbers.
 pub spared_packets_need_a_reported_window :

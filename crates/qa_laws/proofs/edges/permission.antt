@@ -1,11 +1,10 @@
 -- Edges of probes: what is due after a probe timeout, and what it allows (RFC 9002, section 6.2.4).
 --
 -- Before any sample a probe timeout is 999000, and the second comes 1998000 after the last ack-eliciting packet.
-use Rattle.std.specs.Prelude.{◌≡◌, true, false, List, [], ◌∷◌, Some, None, refl}
+use Rattle.std.specs.Prelude.{◌≡◌, true, List, [], ◌∷◌, Some, None, refl}
 use Rattle.qa_base.specs.declared.event.Event.{Event}
-use Rattle.qa_base.specs.declared.event.Event.TheVariants.{Sent, Discard, Confirmed, Keys}
+use Rattle.qa_base.specs.declared.event.Event.TheVariants.{Discard, Confirmed, Keys}
 use Rattle.qa_base.specs.declared.rule.Rule.TheVariants as rule
-use Rattle.qa_base.specs.declared.space.Permission.TheVariants.{Probe}
 use Rattle.qa_base.specs.declared.space.Space.TheVariants.{Initial, Handshake, App}
 use Rattle.qa_base.specs.machine.Permission.{is_probe_due}
 use Rattle.qa_base.specs.machine.Rules.{first_broken, IsRun}

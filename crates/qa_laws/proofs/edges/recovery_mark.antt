@@ -1,7 +1,6 @@
 -- Edges of the one packet that goes out on entering recovery (RFC 9002, section 7.3.2).
 use Rattle.std.specs.Prelude.{◌≡◌, true, false, List, [], ◌∷◌, Some, None, refl}
 use Rattle.qa_base.specs.declared.event.Event.{Event}
-use Rattle.qa_base.specs.declared.event.Event.TheVariants.{Sent}
 use Rattle.qa_base.specs.declared.rule.Rule.TheVariants as rule
 use Rattle.qa_base.specs.declared.space.Permission.TheVariants.{Recovery}
 use Rattle.qa_base.specs.declared.space.Space.TheVariants.{Handshake, App}

@@ -1,5 +1,5 @@
 -- Edges of what a sender may choose in version 3: a window that it overshoots, samples of ack-eliciting packets alone, another packet
--- threshold, timers that are early, and the unit of its log.
+-- threshold, timers that are early, samples that are kept less the delay, another time threshold, and the unit of its log.
 use Rattle.std.specs.Prelude.{◌≡◌, ℕ, true, false, List, [], ◌∷◌, Some, None, refl}
 use Rattle.qa_base.specs.declared.event.Event.{Event}
 use Rattle.qa_base.specs.declared.event.Event.TheVariants.{Confirmed}
@@ -12,7 +12,7 @@ use Rattle.qa_base.specs.machine.Reno.{reno}
 use Rattle.qa_base.specs.machine.Rules.{first_broken, IsRun}
 use Rattle.qa_base.specs.machine.Timer.{deadline, pto_count}
 use Rattle.qa_base.specs.values.Settings.{Settings, no_options}
-use Rattle.qa_laws.proofs.Shorthand.{server, choosing, in_nanoseconds, sent, padded, bare, probe, recovery, ack, lost, loss_fires, pto_fires, metrics}
+use Rattle.qa_laws.proofs.Shorthand.{server, choosing, in_nanoseconds, sent, padded, bare, probe, recovery, ack, delayed_ack, lost, loss_fires, pto_fires, metrics}
 use Rattle.qa_laws.proofs.edges.Deadlines.{loss_at, pto_at}
 
 abbrev s : Settings
@@ -203,6 +203,63 @@ pub late_is_counted_from_the_deadline :
     × (first_broken hasty_and_late awaiting (loss_fires App 112501) ≡ Some rule.TimerLate)
 unfolding first_broken
 late_is_counted_from_the_deadline = (refl, refl)
+
+-- ---- samples that are kept less the delay
+
+abbrev less : Settings
+less = choosing s (record no_options { latest_rtt_less_delay = true })
+
+abbrev delayed : ℕ → List Event
+delayed delay =
+    delayed_ack App ((1, 1) ∷ []) 220000 delay ∷
+    sent App 1 100000 1200 ∷
+    delayed_ack App ((0, 0) ∷ []) 100000 20000 ∷
+    sent App 0 0 1200 ∷ []
+
+-- The first sample, 100000, is kept whole. Of the second, 120000, a delay of 20000 leaves min_rtt, and one more would leave less.
+pub latest_is_less_the_delay :
+    (rtt less (delayed 20000) ≡ record { latest_rtt = 100000; min_rtt = 100000; smoothed_rtt = 100000; rttvar = 37500; first_rtt_sample = Some 100000 })
+    × (rtt less (delayed 20001) ≡ record { latest_rtt = 120000; min_rtt = 100000; smoothed_rtt = 102500; rttvar = 42500; first_rtt_sample = Some 100000 })
+    × (rtt s (delayed 20000) ≡ record { latest_rtt = 120000; min_rtt = 100000; smoothed_rtt = 100000; rttvar = 37500; first_rtt_sample = Some 100000 })
+    × IsRun less (delayed 20000)
+unfolding first_broken
+latest_is_less_the_delay = (refl, refl, refl, ((((tt, refl), refl), refl), refl))
+
+abbrev aged : List Event
+aged =
+    delayed_ack App ((2, 2) ∷ []) 240000 40000 ∷
+    sent App 2 100000 1200 ∷
+    sent App 1 100000 1200 ∷
+    ack App ((0, 0) ∷ []) 100000 ∷
+    sent App 0 0 1200 ∷ []
+
+-- Packet 1 is 140000 old: more than 9/8 of 100000, the sample less the delay, and less than 9/8 of 140000, the sample itself.
+pub loss_delay_is_by_the_latest_less_the_delay :
+    (first_broken less aged (lost App ((1, 1) ∷ []) 240000) ≡ None)
+    × (first_broken s aged (lost App ((1, 1) ∷ []) 240000) ≡ Some rule.LossNotOwed)
+unfolding first_broken
+loss_delay_is_by_the_latest_less_the_delay = (refl, refl)
+
+-- ---- another time threshold
+
+abbrev unhurried : ℕ → Settings
+unhurried eighths = choosing s (record no_options { time_threshold_eighths = eighths })
+
+abbrev odd : List Event
+odd =
+    ack App ((1, 1) ∷ []) 100001 ∷
+    sent App 1 0 1200 ∷
+    sent App 0 0 1200 ∷ []
+
+-- 9/8 of 100001 is 112501.125, 10/8 of it 125001.25, and 32/8 of it 400004.
+pub loss_delay_is_by_the_time_threshold :
+    (deadline (unhurried 9) odd ≡ loss_at App 112502)
+    × (deadline (unhurried 10) odd ≡ loss_at App 125002)
+    × (deadline (unhurried 32) odd ≡ loss_at App 400004)
+    × (first_broken (unhurried 10) odd (loss_fires App 125001) ≡ Some rule.TimerEarly)
+    × IsRun (unhurried 10) (lost App ((0, 0) ∷ []) 125002 ∷ loss_fires App 125002 ∷ odd)
+unfolding first_broken
+loss_delay_is_by_the_time_threshold = (refl, refl, refl, refl, (((((tt, refl), refl), refl), refl), refl))
 
 -- ---- the unit of the log
 

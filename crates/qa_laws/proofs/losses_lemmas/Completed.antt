@@ -6,14 +6,14 @@ use Rattle.std.specs.Prelude.{if◌then◌else◌}
 use Rattle.qa_base.specs.declared.event.Event.{Event}
 use Rattle.qa_base.specs.declared.event.Event.TheVariants.{Lost}
 use Rattle.qa_base.specs.declared.space.Space.{Space}
-use Rattle.qa_base.specs.machine.Detection.{are_ends, is_persistent_by}
-use Rattle.qa_base.specs.machine.Estimates.{refreshed_by, rtt, sampled}
+use Rattle.qa_base.specs.machine.Detection.{are_ends}
+use Rattle.qa_base.specs.machine.Estimates.{rtt, sampled, with_sample_of}
 use Rattle.qa_base.specs.machine.Permission.{is_recovery_packet, recovery_spent}
 use Rattle.qa_base.specs.machine.Loss.{declared, free, is_free, is_nameable, is_owed, is_persistent, nameable, owed}
-use Rattle.qa_base.specs.machine.Moments.{detection_of, last_time}
+use Rattle.qa_base.specs.machine.Moments.{detection_of}
 use Rattle.qa_base.specs.machine.Packets.{Packet, packets}
-use Rattle.qa_base.specs.machine.Reno.{is_entry, reno}
-use Rattle.qa_base.specs.machine.Rtt.{Estimate, refreshed}
+use Rattle.qa_base.specs.machine.Reno.{event_mark, is_entry, reno}
+use Rattle.qa_base.specs.machine.Rtt.{Estimate, after_congestion, refreshed, reset}
 use Rattle.qa_base.specs.machine.Window.{acknowledged_bytes, acknowledged_since_collapse, changes_window}
 use Rattle.qa_base.specs.values.Events.{declares_lost}
 use Rattle.qa_base.specs.values.Settings.{Settings}
@@ -77,15 +77,6 @@ two_more c h r f g ps keeps is =
     some_from (λ p. list_any (are_ends c r h p) (filter g ps)) (filter g ps) p.0 (part_has g ps p.0 in_p.0 (keeps p.0 in_p.1))
     (some_from (are_ends c r h p.0) (filter g ps) q.0 (part_has g ps q.0 in_q.0 (keeps q.0 in_q.1)) q.2)
 
-told_if : (c : Settings) (h : List Event) (r : Estimate) (ps : List Packet) (b : Bool) → make_collapse c h (if b then refreshed r else r) ps ≡ make_collapse c h r ps
-told_if c h r ps true = refl
-told_if c h r ps false = refl
-
--- a refreshed estimate tells the same
-told : (refresh : Bool) (c : Settings) (g h : List Event) (r : Estimate) (ps : List Packet) → make_collapse c h (refreshed_by refresh c g r) ps ≡ make_collapse c h r ps
-told true c g h r ps = told_if c h r ps (is_persistent_by c r g)
-told false c g h r ps = refl
-
 -- a Lost line leaves what lies between two packets
 past_lost : (c : Settings) (time : ℕ) (space : Space) (ranges : List (ℕ × ℕ)) (h : List Event) (r : Estimate) (ps : List Packet)
     → make_collapse c (Lost time space ranges ∷ h) r ps ≡ make_collapse c h r ps
@@ -93,17 +84,17 @@ past_lost c time space ranges h r ps = refl
 
 -- ---- the estimate
 
-refreshed_is : (refresh : Bool) (c : Settings) (h : List Event) (r : Estimate) (b : Bool) → is_persistent_by c r h ≡ b → refreshed_by refresh c h r ≡ (if refresh && b then refreshed r else r)
-refreshed_is true c h r b is = ap (λ (x : Bool). if x then refreshed r else r) is
-refreshed_is false c h r b is = refl
+-- what persistent congestion does to the estimate it does once
+once : (initial_rtt : ℕ) (resets refreshes : Bool) (r : Estimate)
+    → (let on = λ (x : Estimate). if resets then reset initial_rtt x else (if refreshes then refreshed x else x) in on (on r) ≡ on r)
+once initial_rtt true refreshes r = refl
+once initial_rtt false true r = refl
+once initial_rtt false false r = refl
 
-refreshed_twice : (refresh few all : Bool) (r : Estimate) → (few ≡ true → all ≡ true)
-    → (if refresh && all then refreshed (if refresh && few then refreshed r else r) else (if refresh && few then refreshed r else r)) ≡ (if refresh && all then refreshed r else r)
-refreshed_twice false few all r more = refl
-refreshed_twice true true true r more = refl
-refreshed_twice true true false r more = let never = more refl in cc
-refreshed_twice true false true r more = refl
-refreshed_twice true false false r more = refl
+congested_twice : (c : Settings) (few all : Bool) (r : Estimate) → (few ≡ true → all ≡ true) → after_congestion c all (after_congestion c few r) ≡ after_congestion c all r
+congested_twice c true true r more = once c.initial_rtt c.options.reset_rtt c.options.refresh_min_rtt r
+congested_twice c true false r more = let never = more refl in cc
+congested_twice c false all r more = refl
 
 -- ---- sums
 
@@ -178,35 +169,35 @@ persistent c time space ranges d h l =
       must = ap₂ (make_collapse c g) l.samples l.must;
       may = ap (make_collapse c g (sampled c g)) l.may;
       must_later = not_persistent (sampled (where_they_must c) (e ∷ g)) (where_they_must c) (e ∷ g) l.must_later;
-      may_later = ap (make_collapse c (e ∷ g) (rtt c g)) l.may_later ∙ told c.options.refresh_min_rtt c g g (sampled c g) (nameable c g);
+      may_later = ap (make_collapse c (e ∷ g) (sampled c g)) l.may_later;
     }
 
-same_estimate : (c : Settings) (time : ℕ) (space : Space) (ranges : List (ℕ × ℕ)) (d : Event) (h : List Event) → Losses c time space ranges (d ∷ h) → Persistent c time space ranges (d ∷ h)
+same_estimate : (c : Settings) (time : ℕ) (space : Space) (ranges : List (ℕ × ℕ)) (d : Event) (h : List Event) → Same c h → Losses c time space ranges (d ∷ h) → Persistent c time space ranges (d ∷ h)
     → rtt (where_they_must c) (Lost time space ranges ∷ d ∷ h) ≡ rtt c (Lost time space ranges ∷ d ∷ h)
-same_estimate c time space ranges d h l p =
+same_estimate c time space ranges d h same l p =
     let g = d ∷ h in
     let e = Lost time space ranges in
     let m = where_they_must c in
-    let refresh = c.options.refresh_min_rtt in
     let few = few_collapse c g in
     let all = all_collapse c g in
-    let must = rtt-quiet m e g refl l.must_later ∙ (refreshed_is refresh m g (sampled m g) all p.must ∙ ap (λ r. if refresh && all then refreshed r else r) l.samples) in
-    let first : rtt c g ≡ (if refresh && few then refreshed (sampled c g) else sampled c g) = refreshed_is refresh c g (sampled c g) few p.may in
-    let may = refreshed_is refresh c (e ∷ g) (rtt c g) all p.may_later ∙ ap (λ r. if refresh && all then refreshed r else r) first in
-    must ∙ (sym (refreshed_twice refresh few all (sampled c g) (all_if_few c g)) ∙ sym may)
+    let own = with_sample_of c g (rtt c h) in
+    let must = rtt-quiet m e g refl l.must_later ∙ ap₂ (after_congestion c) p.must (ap (with_sample_of c g) same.estimate) in
+    let first : rtt c g ≡ after_congestion c few own = ap (λ b. after_congestion c b own) p.may in
+    let may = ap₂ (after_congestion c) p.may_later first in
+    must ∙ (sym (congested_twice c few all own (all_if_few c g)) ∙ sym may)
 
 -- ---- recovery
 
-more_enter : (c : Settings) (h : List Event) (recovery : Option ℕ) → is_entered_by recovery (owed c h) ≡ true → is_entered_by recovery (nameable c h) ≡ true
+more_enter : (c : Settings) (h : List Event) (recovery : Option ℕ) → is_entered_by c recovery (owed c h) ≡ true → is_entered_by c recovery (nameable c h) ≡ true
 more_enter c h recovery is =
-    entered_more recovery (is_owed c h) (is_nameable c h) (packets h) (owed_may_be_named c h)
-    (subst (λ (ps : List Packet). is_entered_by recovery ps ≡ true) (owed_is c h) is)
+    entered_more c recovery (is_owed c h) (is_nameable c h) (packets h) (owed_may_be_named c h)
+    (subst (λ (ps : List Packet). is_entered_by c recovery ps ≡ true) (owed_is c h) is)
 
 -- what the last event makes of recovery, by whether it collapses the window and what is lost by it
 begins : (c : Settings) (e : Event) (h : List Event) (b : Bool) (before : Option ℕ) (ps : List Packet) → is_persistent c (e ∷ h) ≡ b → (reno c h).recovery_start_time ≡ before → declared c (e ∷ h) ≡ ps
-    → (reno c (e ∷ h)).recovery_start_time ≡ (if b then None else begun before (last_time (detection_of (e ∷ h))) ps)
+    → (reno c (e ∷ h)).recovery_start_time ≡ (if b then None else begun c before (event_mark c (detection_of (e ∷ h))) ps)
 begins c e h b before ps persistent_congestions recovery lost =
-    recovery_is c e h ∙ ap₂ (λ (x : Bool) (o : Option ℕ). if x then None else o) persistent_congestions (ap₂ (λ o qs. begun o (last_time (detection_of (e ∷ h))) qs) recovery lost)
+    recovery_is c e h ∙ ap₂ (λ (x : Bool) (o : Option ℕ). if x then None else o) persistent_congestions (ap₂ (λ o qs. begun c o (event_mark c (detection_of (e ∷ h))) qs) recovery lost)
 
 same_recovery : (c : Settings) (time : ℕ) (space : Space) (ranges : List (ℕ × ℕ)) (d : Event) (h : List Event) → Same c h → Losses c time space ranges (d ∷ h) → Persistent c time space ranges (d ∷ h)
     → (reno (where_they_must c) (Lost time space ranges ∷ d ∷ h)).recovery_start_time ≡ (reno c (Lost time space ranges ∷ d ∷ h)).recovery_start_time
@@ -217,21 +208,21 @@ same_recovery c time space ranges d h same l p =
     let before = (reno c h).recovery_start_time in
     let few = few_collapse c g in
     let all = all_collapse c g in
-    let now = last_time g in
-    let at : last_time (detection_of g) ≡ now = ap last_time l.own in
+    let now = event_mark c g in
+    let at : event_mark c (detection_of g) ≡ now = ap (event_mark c) l.own in
     let must = begins m e g false (reno m g).recovery_start_time [] p.must_later refl l.must_later ∙ (begins m d h all before (nameable c g) p.must same.recovery l.must
-    ∙ ap (λ t. if all then None else begun before t (nameable c g)) at) in
-    let first = begins c d h few before (owed c g) p.may refl l.may ∙ ap (λ t. if few then None else begun before t (owed c g)) at in
-    let may = begins c e g all (if few then None else begun before now (owed c g)) (nameable c g) p.may_later first l.may_later in
-    must ∙ (sym (begun_twice now before (owed c g) (nameable c g) few all (all_if_few c g) (more_enter c g before)) ∙ sym may)
+    ∙ ap (λ t. if all then None else begun c before t (nameable c g)) at) in
+    let first = begins c d h few before (owed c g) p.may refl l.may ∙ ap (λ t. if few then None else begun c before t (owed c g)) at in
+    let may = begins c e g all (if few then None else begun c before now (owed c g)) (nameable c g) p.may_later first l.may_later in
+    must ∙ (sym (begun_twice c now before (owed c g) (nameable c g) few all (all_if_few c g) (more_enter c g before)) ∙ sym may)
 
 not_itself : (e : Event) (h : List Event) → h ≡ e ∷ h → ⊥
 not_itself e h is = let same : length h ≡ length (e ∷ h) = ap length is in omega (arith, same)
 
 enters : (c : Settings) (e : Event) (h : List Event) (recovery : Option ℕ) (ps : List Packet) → detection_of (e ∷ h) ≡ e ∷ h → (reno c h).recovery_start_time ≡ recovery → declared c (e ∷ h) ≡ ps
-    → is_entry c (e ∷ h) ≡ is_entered_by recovery ps
+    → is_entry c (e ∷ h) ≡ is_entered_by c recovery ps
 enters c (Lost time space ranges) h recovery ps own is lost = absurd (not_itself (Lost time space ranges) h own)
-enters c e h recovery ps own is lost = entry_by_losses c (e ∷ h) ∙ ap₂ is_entered_by is lost
+enters c e h recovery ps own is lost = entry_by_losses c (e ∷ h) ∙ ap₂ (is_entered_by c) is lost
 
 spends : (c : Settings) (e : Event) (h : List Event) (b : Bool) → is_entry c (e ∷ h) ≡ b
     → recovery_spent c (e ∷ h) ≡ (if b then Some 0 else option_map (λ n. (if is_recovery_packet (e ∷ h) then 1 else 0) + n) (recovery_spent c h))
@@ -245,13 +236,13 @@ same_spent c time space ranges d h same l =
     let e = Lost time space ranges in
     let m = where_they_must c in
     let before = (reno c h).recovery_start_time in
-    let few = is_entered_by before (owed c g) in
-    let all = is_entered_by before (nameable c g) in
+    let few = is_entered_by c before (owed c g) in
+    let all = is_entered_by c before (nameable c g) in
     let first : Option ℕ = option_map (λ n. (if is_recovery_packet g then 1 else 0) + n) (recovery_spent c h) in
-    let never : is_entry m (e ∷ g) ≡ false = entry_by_losses m (e ∷ g) ∙ ap (is_entered_by (reno m h).recovery_start_time) l.must_later in
+    let never : is_entry m (e ∷ g) ≡ false = entry_by_losses m (e ∷ g) ∙ ap (is_entered_by m (reno m h).recovery_start_time) l.must_later in
     let must = spends m e g false never ∙ ap (option_map (λ n. 0 + n)) (spends m d h all (enters m d h before (nameable c g) l.own same.recovery l.must)
     ∙ ap (λ (o : Option ℕ). if all then Some 0 else option_map (λ n. (if is_recovery_packet g then 1 else 0) + n) o) same.spent) in
-    let may = spends c e g all (entry_by_losses c (e ∷ g) ∙ ap (is_entered_by before) l.may_later)
+    let may = spends c e g all (entry_by_losses c (e ∷ g) ∙ ap (is_entered_by c before) l.may_later)
     ∙ ap (λ (o : Option ℕ). if all then Some 0 else option_map (λ n. 0 + n) o) (spends c d h few (enters c d h before (owed c g) l.own refl l.may)) in
     must ∙ (spent_twice few all first (more_enter c g before) ∙ sym may)
 
@@ -290,7 +281,8 @@ same_past c time space ranges d h same none names some =
     let l = losses c time space ranges d h same none names some in
     let p = persistent c time space ranges d h l in
     record {
-      estimate = same_estimate c time space ranges d h l p;
+      estimate = same_estimate c time space ranges d h same l p;
+      samples = l.samples;
       recovery = same_recovery c time space ranges d h same l p;
       spent = same_spent c time space ranges d h same l;
       on_persistent_congestion = same_collapse c time space ranges d h same l p;

@@ -63,11 +63,11 @@ anti_deadlock_by c h r count last =
     }) last
 
 abbrev packet_deadline_by : Settings → List Event → Estimate → (Packet → Bool) → ℕ → Option Due
-packet_deadline_by c h r flies count = option_or (first_loss_by (loss_delay (granularity c) r) h flies) (first_pto_by c h r flies count)
+packet_deadline_by c h r flies count = option_or (first_loss_by (loss_delay c r) h flies) (first_pto_by c h r flies count)
 
 abbrev deadline_by : Settings → List Event → Estimate → (Packet → Bool) → ℕ → Option ℕ → Option Due
 deadline_by c h r flies count last =
-    option_or (first_loss_by (loss_delay (granularity c) r) h flies) (option_or (first_pto_by c h r flies count) (anti_deadlock_by c h r count last))
+    option_or (first_loss_by (loss_delay c r) h flies) (option_or (first_pto_by c h r flies count) (anti_deadlock_by c h r count last))
 
 deadline_is : (c : Settings) (h : List Event) → deadline c h ≡ deadline_by c h (rtt c h) (is_open c h) (pto_count c h) (last_set h)
 deadline_is c h = refl
@@ -113,10 +113,10 @@ same_first_pto c h r f g count same =
 
 by_packets : (c : Settings) (h : List Event) (r : Estimate) (f g : Packet → Bool) (count : ℕ) (last : Option ℕ) → Agrees h f g → deadline_by c h r f count last ≡ deadline_by c h r g count last
 by_packets c h r f g count last same =
-    ap₂ (λ loss pto. option_or loss (option_or pto (anti_deadlock_by c h r count last))) (same_first_loss (loss_delay (granularity c) r) h f g same) (same_first_pto c h r f g count same)
+    ap₂ (λ loss pto. option_or loss (option_or pto (anti_deadlock_by c h r count last))) (same_first_loss (loss_delay c r) h f g same) (same_first_pto c h r f g count same)
 
 packets_by_packets : (c : Settings) (h : List Event) (r : Estimate) (f g : Packet → Bool) (count : ℕ) → Agrees h f g → packet_deadline_by c h r f count ≡ packet_deadline_by c h r g count
-packets_by_packets c h r f g count same = ap₂ option_or (same_first_loss (loss_delay (granularity c) r) h f g same) (same_first_pto c h r f g count same)
+packets_by_packets c h r f g count same = ap₂ option_or (same_first_loss (loss_delay c r) h f g same) (same_first_pto c h r f g count same)
 
 -- ---- under either header, where nothing is free
 

@@ -1,5 +1,5 @@
 -- A Lost line that has the time of its detection is not late.
-use Rattle.std.proofs.Common.{◌≡◌, ◌∙◌, ◌+◌, ◌&&◌, not, max, ℕ, List, [], ◌∷◌, ◌++◌, Bool, true, false, Option, Some, None, is_some, filter, map, option_map, ◌-◌, refl, sym, ap, ap₂, arith, Contains, inl, inr}
+use Rattle.std.proofs.Common.{◌≡◌, ◌∙◌, ◌+◌, ◌&&◌, not, max, ℕ, List, [], ◌∷◌, ◌++◌, Bool, true, false, Option, Some, None, is_some, filter, map, option_map, refl, sym, ap, ap₂, arith, Contains, inl, inr}
 use Rattle.std.proofs.lemmas.Bool.{and_from, and_parts, cases_Bool, le-ltb}
 use Rattle.std.specs.List.{AllByRecursion}
 use Rattle.std.specs.Option.{option_or}
@@ -11,7 +11,7 @@ use Rattle.qa_base.specs.declared.space.Space.{Space}
 use Rattle.qa_base.specs.declared.space.Space.TheVariants.{Initial, Handshake, App}
 use Rattle.qa_base.specs.declared.space.TimerKind.TheVariants.{Loss}
 use Rattle.qa_base.specs.machine.Breaches.{is_late_by, is_past_due, is_timer_late}
-use Rattle.qa_base.specs.machine.Detection.{is_old, may_be_spared}
+use Rattle.qa_base.specs.machine.Detection.{is_far_below, is_old, may_be_spared}
 use Rattle.qa_base.specs.machine.Estimates.{rtt, sampled}
 use Rattle.qa_base.specs.machine.Loss.{is_open}
 use Rattle.qa_base.specs.machine.Metrics.{metric_tests}
@@ -20,7 +20,7 @@ use Rattle.qa_base.specs.machine.Rtt.{Estimate, loss_delay}
 use Rattle.qa_base.specs.machine.Rules.{IsRun, broken, first_broken}
 use Rattle.qa_base.specs.machine.Timer.{Due, anti_deadlock, awaits_loss, deadline, earlier, earliest_loss, earliest_pto, is_kind, is_same_due, loss_due, packet_deadline, set_since}
 use Rattle.qa_base.specs.values.Events.{time_of}
-use Rattle.qa_base.specs.values.Settings.{Settings, granularity, in_unit, is_may}
+use Rattle.qa_base.specs.values.Settings.{Settings, in_unit, is_may}
 use Rattle.qa_base.proofs.machine.RunLaws.{rules_hold, tolerated_run_of}
 use Rattle.qa_base.proofs.history.Changes.{free_is_flying, free_is_left}
 use Rattle.qa_base.proofs.history.ToleratedRuns.{is_space_same}
@@ -39,7 +39,7 @@ abbrev IsLoss : Option Due → Type 0
 IsLoss None = Unit {0}
 IsLoss (Some due) = is_kind Loss due.kind ≡ true
 
-loss_map : (c : Settings) (r : Estimate) (s : Space) (sent : Option ℕ) → IsLoss (option_map (λ n. record { kind = Loss; space = s; time = n + loss_delay (granularity c) r }) sent)
+loss_map : (c : Settings) (r : Estimate) (s : Space) (sent : Option ℕ) → IsLoss (option_map (λ n. record { kind = Loss; space = s; time = n + loss_delay c r }) sent)
 loss_map c r s None = tt
 loss_map c r s (Some n) = refl
 
@@ -83,10 +83,10 @@ least_there : (due : ℕ → Due) (ps : List Packet) (p : Packet) → Contains p
 least_there due [] p (k, within, is) = absurd (omega (arith, within))
 least_there due (q ∷ ps) p has = refl
 
-below_of : (c : Settings) (r : Estimate) (now : ℕ) (most : Option ℕ) (p : Packet) → may_be_spared c r now most p ≡ true → is_below_largest p.number most ≡ true
-below_of c r now None p is = cc
-below_of c r now (Some m) p is =
-    let far = is_may c.options.loss_by_number && nat_le c.options.packet_threshold (m - p.number) in
+below_of : (c : Settings) (r : Estimate) (h : List Event) (now : ℕ) (most : Option ℕ) (p : Packet) → may_be_spared c r h now most p ≡ true → is_below_largest p.number most ≡ true
+below_of c r h now None p is = cc
+below_of c r h now (Some m) p is =
+    let far = is_may c.options.loss_by_number && is_far_below c h m p in
     (and_parts (nat_lt p.number m) far (and_parts (nat_lt p.number m && far) (not (is_old c r now p)) is).0).0
 
 -- a packet that is free sets it
@@ -95,13 +95,13 @@ free_awaits c h run some =
     let p = some.packet in
     let left = free_is_left c h p some.is in
     and_from (p.in_flight && is_open c h p) (is_below_largest p.number (largest_acknowledged h p.space)) (free_is_flying c h (tolerated_run_of c h run) p some.is)
-    (below_of c (sampled c h) left.now (largest_acknowledged h p.space) p left.spared)
+    (below_of c (sampled c h) h left.now (largest_acknowledged h p.space) p left.spared)
 
 loss_there : (c : Settings) (h : List Event) → IsRun c h → (some : SomeFree c h) → is_some (earliest_loss c h) ≡ true
 loss_there c h run some =
     let p = some.packet in
     some_of c h p.space
-    (least_there (λ n. record { kind = Loss; space = p.space; time = n + loss_delay (granularity c) (rtt c h) }) (filter (awaits_loss c h) (packets_of h p.space)) p
+    (least_there (λ n. record { kind = Loss; space = p.space; time = n + loss_delay c (rtt c h) }) (filter (awaits_loss c h) (packets_of h p.space)) p
     (part_has (awaits_loss c h) (packets_of h p.space) p (part_has (is_of p.space) (packets h) p some.sent (is_space_same p.space)) (free_awaits c h run some)))
 
 -- for a loss at some time

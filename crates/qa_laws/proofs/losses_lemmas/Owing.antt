@@ -1,12 +1,12 @@
 -- What is owed where losses by number must be declared is what a Lost line may name where they may.
-use Rattle.std.proofs.Common.{◌≡◌, ◌∙◌, ◌-◌, ℕ, List, [], ◌∷◌, Bool, true, false, ◌&&◌, ◌||◌, not, Option, Some, None, refl, sym, ap, arith, Contains, inl, inr, ◌⊎◌, subst}
+use Rattle.std.proofs.Common.{◌≡◌, ◌∙◌, ℕ, List, [], ◌∷◌, Bool, true, false, ◌&&◌, ◌||◌, not, Option, Some, None, refl, sym, ap, arith, Contains, inl, inr, ◌⊎◌, subst}
 use Rattle.std.proofs.lemmas.Bool.{false_from_ne_true}
-use Rattle.std.specs.Prelude.{nat_le, nat_lt}
+use Rattle.std.specs.Prelude.{nat_lt}
 use Rattle.qa_base.specs.declared.event.Event.{Event}
 use Rattle.qa_base.specs.declared.event.Event.TheVariants.{Sent, Ack, Lost, Timer, Discard, Confirmed, Keys, Metrics}
 use Rattle.qa_base.specs.declared.space.Space.{Space}
 use Rattle.qa_base.specs.declared.space.TimerKind.TheVariants.{Loss, Pto}
-use Rattle.qa_base.specs.machine.Detection.{detection_by, is_at, is_found, is_left, is_old, is_owed_by, is_past_threshold, is_unsettled, may_be_spared}
+use Rattle.qa_base.specs.machine.Detection.{detection_by, is_at, is_far_below, is_found, is_left, is_old, is_owed_by, is_past_threshold, is_unsettled, may_be_spared}
 use Rattle.qa_base.specs.machine.Estimates.{sampled}
 use Rattle.qa_base.specs.machine.Loss.{declared, free, is_free, is_nameable, is_owed, nameable, owed}
 use Rattle.qa_base.specs.machine.Packets.{Packet, packets, is_of, largest_acknowledged}
@@ -74,11 +74,11 @@ neither true false = refl
 neither false b = refl
 
 found_by : (c : Settings) (r : Estimate) (h : List Event) (p : Packet) (s : Space) (now : ℕ) (most : Option ℕ)
-    → (is_of s p && (p.in_flight && is_unsettled h p && is_past_threshold (where_they_must c) r now most p))
-    ≡ ((is_of s p && (p.in_flight && is_unsettled h p && is_past_threshold c r now most p)) || (is_of s p && (p.in_flight && is_unsettled h p && may_be_spared c r now most p)))
+    → (is_of s p && (p.in_flight && is_unsettled h p && is_past_threshold (where_they_must c) r h now most p))
+    ≡ ((is_of s p && (p.in_flight && is_unsettled h p && is_past_threshold c r h now most p)) || (is_of s p && (p.in_flight && is_unsettled h p && may_be_spared c r h now most p)))
 found_by c r h p s now None = neither (is_of s p) (p.in_flight && is_unsettled h p)
 found_by c r h p s now (Some m) =
-    either (is_of s p) (p.in_flight && is_unsettled h p) (nat_lt p.number m) (is_may c.options.loss_by_number) (nat_le c.options.packet_threshold (m - p.number)) (is_old c r now p)
+    either (is_of s p) (p.in_flight && is_unsettled h p) (nat_lt p.number m) (is_may c.options.loss_by_number) (is_far_below c h m p) (is_old c r now p)
 
 found_both : (c : Settings) (r : Estimate) (h : List Event) (p : Packet) (d : Option (Space × ℕ)) → is_at (is_found (where_they_must c) r h) p d ≡ (is_at (is_found c r h) p d || is_at (is_left c r h) p d)
 found_both c r h p None = refl

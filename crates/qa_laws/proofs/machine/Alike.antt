@@ -1,7 +1,7 @@
 -- What alike headers have in common: all that a history makes, where losses are looked for as of the same times.
 use Rattle.qa_base.proofs.machine.Quiet.{same_sum}
 use Rattle.qa_base.specs.declared.space.LossByNumber.{LossByNumber}
-use Rattle.std.proofs.Common.{◌≡◌, ◌∙◌, ◌+◌, ◌*◌, ◌^◌, ◌&&◌, ◌||◌, not, ℕ, List, [], ◌∷◌, ◌++◌, Bool, true, false, Option, Some, None, refl, sym, ap, ap₂, fold, count_by, map, min, option_map, is_none, Contains, inl, inr, ◌⊎◌, ◌-◌}
+use Rattle.std.proofs.Common.{◌≡◌, ◌∙◌, ◌+◌, ◌*◌, ◌^◌, ◌&&◌, ◌||◌, not, ℕ, List, [], ◌∷◌, ◌++◌, Bool, true, Option, Some, None, refl, sym, ap, ap₂, fold, count_by, map, min, option_map, is_none, Contains, inl, inr, ◌⊎◌}
 use Rattle.std.specs.List.{list_any, AllByRecursion}
 use Rattle.std.specs.Option.{option_or}
 use Rattle.std.specs.Prelude.{if◌then◌else◌, nat_lt, nat_le}
@@ -13,16 +13,16 @@ use Rattle.qa_base.specs.declared.space.Permission.TheVariants.{Recovery}
 use Rattle.qa_base.specs.declared.space.Space.{Space}
 use Rattle.qa_base.specs.declared.space.Space.TheVariants.{Initial, Handshake, App}
 use Rattle.qa_base.specs.machine.Breaches.{is_loss_owed, is_loss_not_owed, numbers, is_other_loss_set, is_over, is_past_recovery, is_timer_not_set, is_other, is_timer_other}
-use Rattle.qa_base.specs.machine.Detection.{are_ends, detection_by, is_at, is_found, is_free_by, is_left, is_old, is_owed_by, is_past_threshold, is_unsettled, looks_at, may_be_spared, old_at}
-use Rattle.qa_base.specs.machine.Estimates.{refreshed_by, rtt, sampled}
+use Rattle.qa_base.specs.machine.Detection.{are_ends, detection_by, distance_below, is_at, is_found, is_free_by, is_left, is_old, is_owed_by, is_past_threshold, is_unsettled, looks_at, may_be_spared, old_at}
+use Rattle.qa_base.specs.machine.Estimates.{found_by, rtt, sampled, with_sample_of}
 use Rattle.qa_base.specs.machine.Handshake.{is_confirmed, is_validated, has_keys}
 use Rattle.qa_base.specs.machine.Permission.{is_recovery_packet, recovery_spent}
 use Rattle.qa_base.specs.machine.Loss.{bytes_in_flight, declared, is_free, is_open, is_owed, is_persistent, nameable, owed, flight_size, is_nameable}
-use Rattle.qa_base.specs.machine.Moments.{before_last, detection_of, last_time, moments, since}
+use Rattle.qa_base.specs.machine.Moments.{before_last, detection_of, moments, since}
 use Rattle.qa_base.specs.machine.Numbers.{names_between}
 use Rattle.qa_base.specs.machine.Packets.{Packet, packets, packets_of, is_of, is_discarded, is_some_packet, newly_acknowledged, largest_acknowledged, least_of, is_below_largest}
-use Rattle.qa_base.specs.machine.Reno.{Control, congestion_events, persistent_congestions, grows, is_app_limited, moves_of_last, moves, moved, start, reno, enters, is_entry}
-use Rattle.qa_base.specs.machine.Rtt.{Estimate, sample_of, updated, refreshed, pto_base, loss_delay}
+use Rattle.qa_base.specs.machine.Reno.{Control, congestion_events, persistent_congestions, grows, is_app_limited, moves_of_last, moves, moved, start, reno, enters, is_entry, event_mark}
+use Rattle.qa_base.specs.machine.Rtt.{Estimate, after_congestion, loss_delay, pto_base}
 use Rattle.qa_base.specs.machine.State.{totals}
 use Rattle.qa_base.specs.machine.Timer.{pto_count, earlier, awaits_loss, loss_due, earliest_loss, awaits_acknowledgment, last_eliciting, pto_due, earliest_pto, last_set, anti_deadlock, deadline, packet_deadline, is_same_due, set_since}
 use Rattle.qa_base.specs.machine.Window.{acknowledged_bytes, acknowledged_since_collapse, changes_window, reported_window, ssthresh, ssthresh_by, window, window_by}
@@ -79,6 +79,11 @@ like c t = record {
     packet_threshold = t.packet_threshold;
     timer_early_us = t.timer_early_us;
     loss_by_number = t.loss_by_number;
+    threshold_counts = c.options.threshold_counts;
+    reset_rtt = c.options.reset_rtt;
+    latest_rtt_less_delay = c.options.latest_rtt_less_delay;
+    time_threshold_eighths = c.options.time_threshold_eighths;
+    recovery_by_order = c.options.recovery_by_order;
   };
 }
 
@@ -93,6 +98,11 @@ like_is c d a = rw (
   sym a.refresh_min_rtt,
   sym a.controller,
   sym a.sample_eliciting_only,
+  sym a.threshold_counts,
+  sym a.reset_rtt,
+  sym a.latest_rtt_less_delay,
+  sym a.time_threshold_eighths,
+  sym a.recovery_by_order,
 ) refl
 
 -- behind each event of the history losses are looked for in the same place, as of the same time
@@ -139,26 +149,26 @@ OwesAlike c t = (t.loss_by_number ≡ c.options.loss_by_number) × ((t.packet_th
 abbrev pub SameLosses : Settings → Tolerances → Type 0
 SameLosses c t = (t.loss_by_number ≡ c.options.loss_by_number) × (t.packet_threshold ≡ c.options.packet_threshold)
 
-past_alike : (c : Settings) (t : Tolerances) → OwesAlike c t → (r : Estimate) (now : ℕ) (most : Option ℕ) (p : Packet) → is_past_threshold (like c t) r now most p ≡ is_past_threshold c r now most p
-past_alike c t alike r now None p = refl
-past_alike c t (asked, inl same) r now (Some m) p = ap₂ (λ l k. nat_lt p.number m && ((not (is_may l) && nat_le k (m - p.number)) || is_old c r now p)) asked same
-past_alike c t (asked, inr may) r now (Some m) p = ap (λ l. nat_lt p.number m && ((not (is_may l) && nat_le t.packet_threshold (m - p.number)) || is_old c r now p)) asked ∙ rw may refl
+past_alike : (c : Settings) (t : Tolerances) → OwesAlike c t → (r : Estimate) (h : List Event) (now : ℕ) (most : Option ℕ) (p : Packet) → is_past_threshold (like c t) r h now most p ≡ is_past_threshold c r h now most p
+past_alike c t alike r h now None p = refl
+past_alike c t (asked, inl same) r h now (Some m) p = ap₂ (λ l k. nat_lt p.number m && ((not (is_may l) && nat_le k (distance_below c.options.threshold_counts h p.space p.number m)) || is_old c r now p)) asked same
+past_alike c t (asked, inr may) r h now (Some m) p = ap (λ l. nat_lt p.number m && ((not (is_may l) && nat_le t.packet_threshold (distance_below c.options.threshold_counts h p.space p.number m)) || is_old c r now p)) asked ∙ rw may refl
 
 pub found_alike : (c : Settings) (t : Tolerances) → OwesAlike c t → (r : Estimate) (h : List Event) (p : Packet) (d : Option (Space × ℕ)) → is_at (is_found (like c t) r h) p d ≡ is_at (is_found c r h) p d
 found_alike c t alike r h p None = refl
 found_alike c t alike r h p (Some d) =
-    ap (λ b. is_of d.0 p && (p.in_flight && is_unsettled h p && b)) (past_alike c t alike r d.1 (largest_acknowledged h d.0) p)
+    ap (λ b. is_of d.0 p && (p.in_flight && is_unsettled h p && b)) (past_alike c t alike r h d.1 (largest_acknowledged h d.0) p)
 
-spared_alike : (c : Settings) (t : Tolerances) → SameLosses c t → (r : Estimate) (now : ℕ) (most : Option ℕ) (p : Packet)
-    → may_be_spared (like c t) r now most p ≡ may_be_spared c r now most p
-spared_alike c t same r now None p = refl
-spared_alike c t same r now (Some m) p = ap₂ (λ l k. nat_lt p.number m && (is_may l && nat_le k (m - p.number)) && not (is_old c r now p)) same.0 same.1
+spared_alike : (c : Settings) (t : Tolerances) → SameLosses c t → (r : Estimate) (h : List Event) (now : ℕ) (most : Option ℕ) (p : Packet)
+    → may_be_spared (like c t) r h now most p ≡ may_be_spared c r h now most p
+spared_alike c t same r h now None p = refl
+spared_alike c t same r h now (Some m) p = ap₂ (λ l k. nat_lt p.number m && (is_may l && nat_le k (distance_below c.options.threshold_counts h p.space p.number m)) && not (is_old c r now p)) same.0 same.1
 
 left_alike : (c : Settings) (t : Tolerances) → SameLosses c t → (r : Estimate) (h : List Event) (p : Packet) (d : Option (Space × ℕ))
     → is_at (is_left (like c t) r h) p d ≡ is_at (is_left c r h) p d
 left_alike c t same r h p None = refl
 left_alike c t same r h p (Some d) =
-    ap (λ b. is_of d.0 p && (p.in_flight && is_unsettled h p && b)) (spared_alike c t same r d.1 (largest_acknowledged h d.0) p)
+    ap (λ b. is_of d.0 p && (p.in_flight && is_unsettled h p && b)) (spared_alike c t same r h d.1 (largest_acknowledged h d.0) p)
 
 pub owes_alike : (c : Settings) (t : Tolerances) → OwesAlike c t → (h : List Event) → Detects c t h → (p : Packet) → is_owed_by (like c t) (sampled c h) h p ≡ is_owed_by c (sampled c h) h p
 owes_alike c t alike h detects p =
@@ -216,11 +226,6 @@ lost_by_samples c t (Lost time space ranges) h agree before now =
     ∙ sym (declared_is c time space ranges h)
 lost_by_samples c t e h agree before now = owed_by_samples c t (e ∷ h) agree now
 
-refreshed_same : (refresh : Bool) (c : Settings) (t : Tolerances) (h : List Event) → sampled (like c t) h ≡ sampled c h → declared (like c t) h ≡ declared c h
-    → refreshed_by refresh (like c t) h (sampled (like c t) h) ≡ refreshed_by refresh c h (sampled c h)
-refreshed_same true c t h same lost = ap₂ (λ r ps. if list_any (λ p. list_any (are_ends c r h p) ps) ps then refreshed r else r) same lost
-refreshed_same false c t h same lost = same
-
 -- the samples give the same, and the estimate is the same, and so is what is lost by the last event
 record SameEstimate (c : Settings) (t : Tolerances) (h : List Event) : Type 0 where
   samples : sampled (like c t) h ≡ sampled c h
@@ -231,9 +236,11 @@ same_estimate : (c : Settings) (t : Tolerances) (h : List Event) → Agree c t h
 same_estimate c t [] agree = record { samples = refl; estimate = refl; lost = refl }
 same_estimate c t (e ∷ h) agree =
     let before = same_estimate c t h agree.0 in
-    let samples : sampled (like c t) (e ∷ h) ≡ sampled c (e ∷ h) = ap (λ r. updated r (sample_of c (e ∷ h))) before.estimate in
+    let own : with_sample_of (like c t) (e ∷ h) (rtt (like c t) h) ≡ with_sample_of c (e ∷ h) (rtt c h) = ap (with_sample_of c (e ∷ h)) before.estimate in
+    let samples : sampled (like c t) (e ∷ h) ≡ sampled c (e ∷ h) = ap₂ (found_by e) before.samples own in
     let lost = lost_by_samples c t e h agree before.samples samples in
-    record { samples = samples; estimate = refreshed_same c.options.refresh_min_rtt c t (e ∷ h) samples lost; lost = lost }
+    let persists = ap₂ (λ r ps. list_any (λ p. list_any (are_ends c r (e ∷ h) p) ps) ps) samples lost in
+    record { samples = samples; estimate = ap₂ (after_congestion c) persists own; lost = lost }
 
 pub same_rtt : (c : Settings) (t : Tolerances) (h : List Event) → Agree c t h → rtt (like c t) h ≡ rtt c h
 same_rtt c t h agree = (same_estimate c t h agree).estimate
@@ -275,7 +282,7 @@ same_bytes c t h agree =
 same_moves_of_last : (c : Settings) (t : Tolerances) (h : List Event) → Agree c t h → moves_of_last (like c t) h ≡ moves_of_last c h
 same_moves_of_last c t [] agree = refl
 same_moves_of_last c t (e ∷ h) agree =
-    ap₂ (λ ps persistent. congestion_events (last_time (detection_of (e ∷ h))) ps ++ persistent_congestions persistent ++ (if is_app_limited e then [] else grows (newly_acknowledged (e ∷ h))))
+    ap₂ (λ ps persistent. congestion_events c (event_mark c (detection_of (e ∷ h))) ps ++ persistent_congestions persistent ++ (if is_app_limited e then [] else grows c (newly_acknowledged (e ∷ h))))
     (same_declared c t (e ∷ h) agree) (same_persistent c t (e ∷ h) agree)
 
 same_moves : (c : Settings) (t : Tolerances) (h : List Event) → Agree c t h → moves (like c t) h ≡ moves c h
@@ -339,7 +346,7 @@ same_awaits_loss c t h agree p has = ap (λ here. p.in_flight && here && is_belo
 
 same_loss_due : (c : Settings) (t : Tolerances) (h : List Event) → Agree c t h → (s : Space) → loss_due (like c t) h s ≡ loss_due c h s
 same_loss_due c t h agree s =
-    ap₂ (λ r awaiting. option_map (λ sent. record { kind = Loss; space = s; time = sent + loss_delay (granularity c) r }) (least_of (map (λ p. p.time) awaiting)))
+    ap₂ (λ r awaiting. option_map (λ sent. record { kind = Loss; space = s; time = sent + loss_delay c r }) (least_of (map (λ p. p.time) awaiting)))
     (same_rtt c t h agree) (same_part (awaits_loss (like c t) h) (awaits_loss c h) (packets_of h s) (of_each (λ p. awaits_loss (like c t) h p ≡ awaits_loss c h p) (packets_of h s)
     (λ p has. same_awaits_loss c t h agree p (part_is (is_of s) (packets h) p has).0)))
 

@@ -144,7 +144,7 @@ found_in_flight : (c : Settings) (h : List Event) (p : Packet) (d : Option (Spac
 found_in_flight c h p None is = cc
 found_in_flight c h p (Some (s, now)) is =
     let parts = and_parts (is_of s p) (is_found c (sampled c h) h now s p) is in
-    let more = and_parts (p.in_flight && is_unsettled h p) (is_past_threshold c (sampled c h) now (largest_acknowledged h s) p) parts.1 in
+    let more = and_parts (p.in_flight && is_unsettled h p) (is_past_threshold c (sampled c h) h now (largest_acknowledged h s) p) parts.1 in
     (and_parts p.in_flight (is_unsettled h p) more.0).0
 
 -- what is found lost is in flight

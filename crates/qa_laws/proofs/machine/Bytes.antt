@@ -2,7 +2,7 @@
 use Rattle.qa_base.proofs.machine.Declared.{same_filter}
 use Rattle.std.proofs.lemmas.Bool.{and_right}
 use Rattle.qa_base.specs.history.Declared.{named_free, is_named_free}
-use Rattle.std.proofs.Common.{◌≡◌, ◌+◌, ℕ, List, [], ◌∷◌, length, Bool, true, false, ap, arith, sum_by, filter, ◌∙◌, refl}
+use Rattle.std.proofs.Common.{◌≡◌, ◌+◌, ℕ, List, [], ◌∷◌, length, true, false, ap, arith, sum_by, filter, ◌∙◌, refl}
 use Rattle.qa_base.specs.declared.event.Event.{Event}
 use Rattle.qa_base.specs.declared.event.Ack.{Ack as Acknowledgment}
 use Rattle.qa_base.specs.declared.event.Event.TheVariants.{Ack, Timer, Discard}

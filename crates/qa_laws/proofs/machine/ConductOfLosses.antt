@@ -1,5 +1,5 @@
 -- What a run declares lost was lost.
-use Rattle.std.proofs.Common.{◌≡◌, ◌∙◌, ◌+◌, ◌-◌, ◌<◌, ◌≤◌, ℕ, max, List, [], ◌∷◌, ◌++◌, length, Bool, true, false, ◌&&◌, ◌||◌, not, Option, Some, None, refl, sym, ap, arith, subst, Contains, inl, inr, ◌⊎◌}
+use Rattle.std.proofs.Common.{◌≡◌, ◌∙◌, ◌-◌, ◌<◌, ◌≤◌, ℕ, max, List, [], ◌∷◌, ◌++◌, length, Bool, true, false, ◌&&◌, ◌||◌, not, Option, Some, None, refl, sym, ap, arith, subst, Contains, inl, inr, ◌⊎◌}
 use Rattle.std.proofs.lemmas.Bool.{and_parts, and_from, or_left, or_right, or_cases, not-false, leb-true, leb-false, ltb-true, lt-ltb, le-leb}
 use Rattle.std.specs.List.{list_all, AllByRecursion}
 use Rattle.std.specs.Prelude.{nat_lt, nat_le, if◌then◌else◌}
@@ -11,13 +11,13 @@ use Rattle.qa_base.specs.machine.Breaches.{numbers}
 use Rattle.qa_laws.specs.machine.Conduct.{IsLostRightly}
 use Rattle.qa_base.specs.values.Events.{is_space, is_named, acknowledges, has_ranges}
 use Rattle.qa_base.specs.machine.Estimates.{sampled}
-use Rattle.qa_base.specs.machine.Detection.{is_at, is_found, is_old, is_past_threshold, is_unsettled, may_be_spared}
+use Rattle.qa_base.specs.machine.Detection.{distance_below, is_at, is_found, is_old, is_past_threshold, is_unsettled, may_be_spared}
 use Rattle.qa_base.specs.machine.Loss.{owed, is_owed, is_free, nameable, is_nameable, detection}
 use Rattle.qa_base.specs.machine.Numbers.{has_all}
 use Rattle.qa_base.specs.machine.Packets.{Packet, packet_of, packets, packets_of, is_of, is_acknowledged, greatest, greatest_in, largest_acknowledged}
 use Rattle.qa_format.specs.format.Proper.{IsRange, IsProperEvent}
 use Rattle.qa_base.specs.machine.Rules.{IsRun}
-use Rattle.qa_base.specs.values.Settings.{Settings, granularity, is_may}
+use Rattle.qa_base.specs.values.Settings.{Settings, is_may}
 use Rattle.qa_base.specs.machine.Rtt.{loss_delay}
 use Rattle.qa_base.proofs.history.Changes.{free_is_left, one_of_numbers}
 use Rattle.qa_base.proofs.history.ToleratedRuns.{in_order, is_space_same, is_space_is}
@@ -135,30 +135,32 @@ place_of c h run p q has_p has_q same lower = elim (two_of WasSentBefore (packet
 -- below a number, and lower than it by the packet threshold, or old
 abbrev IsLate : Settings → List Event → ℕ → Packet → Option ℕ → Type 0
 IsLate c h now p None = ⊥
-IsLate c h now p (Some m) = (p.number < m) × ((p.number + c.options.packet_threshold ≤ m) ⊎ (loss_delay (granularity c) (sampled c h) ≤ now - p.time))
+IsLate c h now p (Some m) = (p.number < m) × ((c.options.packet_threshold ≤ distance_below c.options.threshold_counts h p.space p.number m) ⊎ (loss_delay c (sampled c h) ≤ now - p.time))
 
-late_if_found : (c : Settings) (h : List Event) (now : ℕ) (most : Option ℕ) (p : Packet) → is_past_threshold c (sampled c h) now most p ≡ true → IsLate c h now p most
+late_if_found : (c : Settings) (h : List Event) (now : ℕ) (most : Option ℕ) (p : Packet) → is_past_threshold c (sampled c h) h now most p ≡ true → IsLate c h now p most
 late_if_found c h now None p is = cc
 late_if_found c h now (Some m) p is =
-    let far = nat_le c.options.packet_threshold (m - p.number) in
+    let distance = distance_below c.options.threshold_counts h p.space p.number m in
+    let far = nat_le c.options.packet_threshold distance in
     let both = and_parts (nat_lt p.number m) ((not (is_may c.options.loss_by_number) && far) || is_old c (sampled c h) now p) is in
     let below = ltb-true p.number m both.0 in (
       below,
       elim (or_cases (not (is_may c.options.loss_by_number) && far) (is_old c (sampled c h) now p) both.1) [
-        | inl by_number ↦ (let three = leb-true c.options.packet_threshold (m - p.number) (and_parts (not (is_may c.options.loss_by_number)) far by_number).1 in inl (omega (arith, three, below)))
+        | inl by_number ↦ (let three = leb-true c.options.packet_threshold distance (and_parts (not (is_may c.options.loss_by_number)) far by_number).1 in inl three)
         | inr old ↦ inr ((old_is_after_loss_delay c (sampled c h) now p).0 old)
       ],
     )
 
-late_if_spared : (c : Settings) (h : List Event) (now : ℕ) (most : Option ℕ) (p : Packet) → may_be_spared c (sampled c h) now most p ≡ true → IsLate c h now p most
+late_if_spared : (c : Settings) (h : List Event) (now : ℕ) (most : Option ℕ) (p : Packet) → may_be_spared c (sampled c h) h now most p ≡ true → IsLate c h now p most
 late_if_spared c h now None p is = cc
 late_if_spared c h now (Some m) p is =
-    let far = nat_le c.options.packet_threshold (m - p.number) in
+    let distance = distance_below c.options.threshold_counts h p.space p.number m in
+    let far = nat_le c.options.packet_threshold distance in
     let young = and_parts (nat_lt p.number m && (is_may c.options.loss_by_number && far)) (not (is_old c (sampled c h) now p)) is in
     let both = and_parts (nat_lt p.number m) (is_may c.options.loss_by_number && far) young.0 in
     let below = ltb-true p.number m both.0 in
-    let three = leb-true c.options.packet_threshold (m - p.number) (and_parts (is_may c.options.loss_by_number) far both.1).1 in
-    (below, inl (omega (arith, three, below)))
+    let three = leb-true c.options.packet_threshold distance (and_parts (is_may c.options.loss_by_number) far both.1).1 in
+    (below, inl three)
 
 lost_by : (c : Settings) (h : List Event) → IsRun c h → AllByRecursion IsProperEvent h → (p : Packet) → Contains (packets h) p → (s : Space) (now : ℕ)
     → detection c h ≡ Some (s, now) → p.space ≡ s → p.in_flight ≡ true → (most : Option ℕ) → largest_acknowledged h s ≡ most → IsLate c h now p most
@@ -182,7 +184,7 @@ lost_by c h run proper p has s now at of_space flying (Some m) largest late =
       lower = lower;
       now = now;
       detected = at;
-      late = subst (λ (k : ℕ). (p.number + c.options.packet_threshold ≤ k) ⊎ (loss_delay (granularity c) (sampled c h) ≤ now - p.time)) (sym ack.3) late.1;
+      late = subst (λ (k : ℕ). (c.options.packet_threshold ≤ distance_below c.options.threshold_counts h p.space p.number k) ⊎ (loss_delay c (sampled c h) ≤ now - p.time)) (sym ack.3) late.1;
     }
 
 found_rightly : (c : Settings) (h : List Event) → IsRun c h → AllByRecursion IsProperEvent h → (p : Packet) → Contains (packets h) p
@@ -190,7 +192,7 @@ found_rightly : (c : Settings) (h : List Event) → IsRun c h → AllByRecursion
 found_rightly c h run proper p has None at is = cc
 found_rightly c h run proper p has (Some (s, now)) at is =
     let parts = and_parts (is_of s p) (is_found c (sampled c h) h now s p) is in
-    let more = and_parts (p.in_flight && is_unsettled h p) (is_past_threshold c (sampled c h) now (largest_acknowledged h s) p) parts.1 in
+    let more = and_parts (p.in_flight && is_unsettled h p) (is_past_threshold c (sampled c h) h now (largest_acknowledged h s) p) parts.1 in
     let flying = (and_parts p.in_flight (is_unsettled h p) more.0).0 in
     let of_s : p.space ≡ s = sym (is_space_is s p.space parts.0) in
     subst (λ (t : Space). IsLostRightly c h t p.number) (sym of_s)

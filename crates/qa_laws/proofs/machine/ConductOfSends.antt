@@ -10,7 +10,6 @@ use Rattle.qa_base.specs.declared.event.SentPacket.{SentPacket}
 use Rattle.qa_base.specs.declared.space.TimerKind.TheVariants.{Loss, Pto}
 use Rattle.qa_base.specs.declared.space.Permission.{Permission}
 use Rattle.qa_base.specs.declared.space.Permission.TheVariants.{Window, Probe, Recovery}
-use Rattle.qa_base.specs.declared.space.Space.{Space}
 use Rattle.qa_base.specs.values.Events.{is_in_flight_by}
 use Rattle.qa_base.specs.machine.Breaches.{is_over, is_past}
 use Rattle.qa_laws.specs.machine.Conduct.{is_pto_event, is_probe, probe_bytes, is_recovery, HasMoment, IsAmong, HasPermission, HasOvershoot}

@@ -2,7 +2,7 @@
 use Rattle.std.proofs.Common.{◌≡◌, ◌∙◌, ◌+◌, ◌-◌, ◌≤◌, ℕ, List, [], ◌∷◌, Bool, true, false, ◌&&◌, ◌||◌, Option, Some, None, option_map, max, min, refl, sym, ap, arith, subst, Contains, inl, inr, not}
 use Rattle.std.proofs.lemmas.Bool.{and_parts, and_from, or_right, ltb-false}
 use Rattle.std.specs.Option.{option_or}
-use Rattle.std.specs.Prelude.{nat_lt, nat_le}
+use Rattle.std.specs.Prelude.{nat_lt}
 use Rattle.qa_base.specs.declared.event.Event.{Event}
 use Rattle.qa_base.specs.declared.event.Event.TheVariants.{Timer}
 use Rattle.qa_base.specs.declared.space.TimerKind.TheVariants.{Loss}
@@ -11,12 +11,12 @@ use Rattle.qa_base.specs.declared.space.Space.TheVariants.{Initial, Handshake, A
 use Rattle.qa_base.specs.machine.Breaches.{is_before}
 use Rattle.qa_base.specs.machine.Estimates.{rtt, sampled}
 use Rattle.qa_base.specs.machine.Rtt.{Estimate, loss_delay}
-use Rattle.qa_base.specs.machine.Detection.{is_found, is_past_threshold, is_old, is_unsettled, looks_at, old_at}
+use Rattle.qa_base.specs.machine.Detection.{is_far_below, is_found, is_past_threshold, is_old, is_unsettled, looks_at, old_at}
 use Rattle.qa_base.specs.machine.Loss.{owed, is_open}
 use Rattle.qa_base.specs.history.Oldest.{is_flying, due_of}
 use Rattle.qa_base.specs.machine.Packets.{Packet, packets_of, largest_acknowledged, is_below_largest}
 use Rattle.qa_base.specs.machine.Rules.{IsRun}
-use Rattle.qa_base.specs.values.Settings.{Settings, early, granularity, is_may}
+use Rattle.qa_base.specs.values.Settings.{Settings, early, is_may}
 use Rattle.qa_base.specs.machine.Timer.{Due, deadline, earlier, earliest_loss, earliest_pto, anti_deadlock, loss_due}
 use Rattle.qa_base.proofs.history.Awaiting.{earliest_of_space, old_at_is}
 use Rattle.qa_base.proofs.history.ToleratedRuns.{is_space_is}
@@ -33,13 +33,13 @@ pub record Awaits (c : Settings) (h : List Event) (due : Due) : Type 0 where
   pub sent : Contains (packets_of h due.space) packet
   pub flying : is_flying c h packet ≡ true
   pub below : is_below_largest packet.number (largest_acknowledged h due.space) ≡ true
-  pub time : due.time ≡ packet.time + loss_delay (granularity c) (rtt c h)
+  pub time : due.time ≡ packet.time + loss_delay c (rtt c h)
 
 due_if : (c : Settings) (h : List Event) (s : Space) (p : Packet) (due : Due) (b : Bool) → is_below_largest p.number (largest_acknowledged h s) ≡ b
     → Contains (packets_of h s) p → is_flying c h p ≡ true → due_of c h s (Some p) ≡ Some due → Awaits c h due
 due_if c h s p due true below has flying is =
     let more = rw below at is in
-    let same : record { kind = Loss; space = s; time = p.time + loss_delay (granularity c) (rtt c h) } ≡ due = cc in
+    let same : record { kind = Loss; space = s; time = p.time + loss_delay c (rtt c h) } ≡ due = cc in
     subst (λ (d : Due). Awaits c h d) same (record { packet = p; sent = has; flying = flying; below = below; time = refl })
 due_if c h s p due false below has flying is = let more = rw below at is in cc
 
@@ -61,10 +61,10 @@ earliest_awaits c h run due is = elim (earlier_is (loss_due c h Initial) (earlie
   ]
 ]
 
-late_from : (c : Settings) (r : Estimate) (now : ℕ) (p : Packet) (most : Option ℕ) → is_below_largest p.number most ≡ true → is_old c r now p ≡ true → is_past_threshold c r now most p ≡ true
-late_from c r now p None below old = cc
-late_from c r now p (Some m) below old =
-    and_from (nat_lt p.number m) ((not (is_may c.options.loss_by_number) && nat_le c.options.packet_threshold (m - p.number)) || is_old c r now p) below (or_right (not (is_may c.options.loss_by_number) && nat_le c.options.packet_threshold (m - p.number)) (is_old c r now p) old)
+late_from : (c : Settings) (r : Estimate) (h : List Event) (now : ℕ) (p : Packet) (most : Option ℕ) → is_below_largest p.number most ≡ true → is_old c r now p ≡ true → is_past_threshold c r h now most p ≡ true
+late_from c r h now p None below old = cc
+late_from c r h now p (Some m) below old =
+    and_from (nat_lt p.number m) ((not (is_may c.options.loss_by_number) && is_far_below c h m p) || is_old c r now p) below (or_right (not (is_may c.options.loss_by_number) && is_far_below c h m p) (is_old c r now p) old)
 
 none_has : (ps : List Packet) (p : Packet) → Contains ps p → ps ≡ [] → ⊥
 none_has [] p (k, within, is) none = omega arith
@@ -107,14 +107,14 @@ timer_owes c h time space run none =
     let p = awaits.packet in
     let now = looks_at (early c) time (old_at c (rtt c h) h space) in
     let now_is : now ≡ max time (min due.time (time + early c)) = ap (looks_at (early c) time) set.old in
-    let waited : loss_delay (granularity c) (rtt c h) ≤ now - p.time = omega (arith, set.soon, awaits.time, now_is) in
+    let waited : loss_delay c (rtt c h) ≤ now - p.time = omega (arith, set.soon, awaits.time, now_is) in
     let old = (old_is_after_loss_delay c (rtt c h) now p).1 waited in
     let below : is_below_largest p.number (largest_acknowledged h space) ≡ true = subst (λ (s : Space). is_below_largest p.number (largest_acknowledged h s) ≡ true) (sym of_space) awaits.below in
     let has : Contains (packets_of h space) p = subst (λ (s : Space). Contains (packets_of h s) p) (sym of_space) awaits.sent in
     let flying = and_parts p.in_flight (is_open c h p) awaits.flying in
-    let late = late_from c (rtt c h) now p (largest_acknowledged h space) below old in
+    let late = late_from c (rtt c h) (Timer time Loss space ∷ h) now p (largest_acknowledged h space) below old in
     let unsettled = (opens_is c h p flying.1).unsettled in
     let e = Timer time Loss space in
-    let found : is_found c (sampled c (e ∷ h)) (e ∷ h) now space p ≡ true = and_from (p.in_flight && is_unsettled (e ∷ h) p) (is_past_threshold c (sampled c (e ∷ h)) now (largest_acknowledged (e ∷ h) space) p)
+    let found : is_found c (sampled c (e ∷ h)) (e ∷ h) now space p ≡ true = and_from (p.in_flight && is_unsettled (e ∷ h) p) (is_past_threshold c (sampled c (e ∷ h)) (e ∷ h) now (largest_acknowledged (e ∷ h) space) p)
     (and_from p.in_flight (is_unsettled (e ∷ h) p) flying.0 unsettled) late in
     none_has (owed c (e ∷ h)) p (part_has (is_found c (sampled c (e ∷ h)) (e ∷ h) now space) (packets_of (e ∷ h) space) p has found) none

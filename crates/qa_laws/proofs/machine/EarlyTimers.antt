@@ -7,10 +7,12 @@ use Rattle.qa_base.specs.declared.event.Event.{Event}
 use Rattle.qa_base.specs.declared.event.Event.TheVariants.{Timer}
 use Rattle.qa_base.specs.declared.space.TimerKind.TheVariants.{Loss}
 use Rattle.qa_base.specs.declared.space.Space.{Space}
+use Rattle.qa_base.specs.declared.space.ThresholdCounts.{ThresholdCounts}
+use Rattle.qa_base.specs.declared.space.ThresholdCounts.TheVariants.{Numbers, Packets}
 use Rattle.qa_base.specs.declared.space.TimeUnit.{TimeUnit}
 use Rattle.qa_base.specs.declared.space.TimeUnit.TheVariants.{Microseconds, Nanoseconds}
 use Rattle.qa_base.specs.machine.Breaches.{is_before}
-use Rattle.qa_base.specs.machine.Detection.{awaits_timer, first_awaiting, is_end, is_found, is_old, is_past_threshold, is_unsettled, looks_at, old_at}
+use Rattle.qa_base.specs.machine.Detection.{awaits_timer, distance_below, first_awaiting, is_end, is_far_below, is_found, is_old, is_past_threshold, is_unsettled, looks_at, old_at}
 use Rattle.qa_base.specs.machine.Estimates.{rtt, sampled}
 use Rattle.qa_base.specs.machine.Loss.{is_owed, is_persistent, owed}
 use Rattle.qa_base.specs.machine.Packets.{Packet, is_below_largest, is_of, largest_acknowledged, least_of, packets, packets_of}
@@ -68,12 +70,12 @@ sets_from (Some sent) delay due is = (sent, refl, one_number (sent + delay) due 
 
 -- ---- what is found by age alone
 
-old_unless_far : (c : Settings) (r : Estimate) (now : ℕ) (most : Option ℕ) (p : Packet) → is_past_threshold c r now most p ≡ true
-    → (is_may c.options.loss_by_number ≡ false → is_far c p most ≡ false)
+old_unless_far : (c : Settings) (r : Estimate) (h : List Event) (now : ℕ) (most : Option ℕ) (p : Packet) → is_past_threshold c r h now most p ≡ true
+    → (is_may c.options.loss_by_number ≡ false → is_far c h p most ≡ false)
     → (is_old c r now p ≡ true) × (is_below_largest p.number most ≡ true)
-old_unless_far c r now None p past near = cc
-old_unless_far c r now (Some m) p past near =
-    let far = nat_le c.options.packet_threshold (m - p.number) in
+old_unless_far c r h now None p past near = cc
+old_unless_far c r h now (Some m) p past near =
+    let far = is_far_below c h m p in
     let both = and_parts (nat_lt p.number m) ((not (is_may c.options.loss_by_number) && far) || is_old c r now p) past in
     (by_age (nat_lt p.number m) (is_may c.options.loss_by_number) far (is_old c r now p) both.0 near both.1, both.0)
   where
@@ -87,7 +89,7 @@ long : (unit : TimeUnit) → 1 ≤ in_unit unit 1000
 long Microseconds = omega arith
 long Nanoseconds = omega arith
 
-delay_long : (c : Settings) (r : Estimate) → 1 ≤ loss_delay (granularity c) r
+delay_long : (c : Settings) (r : Estimate) → 1 ≤ loss_delay c r
 delay_long c r = let grain : 1 ≤ granularity c = long c.unit in omega (arith, grain)
 
 looks_then : (tolerance time due : ℕ) (old : Option ℕ) → old ≡ Some due → time < due → due ≤ time + tolerance → looks_at tolerance time old ≡ due
@@ -100,6 +102,15 @@ same_time sent delay due now t sets at long waited first = omega (arith, sets, a
 one_due : (d e : Due) → ◌≡◌ {A = Option Due} (Some d) (Some e) → d ≡ e
 one_due d e is = cc
 
+-- a timer sends nothing that would count
+distance_at_timer : (counts : ThresholdCounts) (h : List Event) (time : ℕ) (space s : Space) (n m : ℕ) → distance_below counts (Timer time Loss space ∷ h) s n m ≡ distance_below counts h s n m
+distance_at_timer Numbers h time space s n m = refl
+distance_at_timer Packets h time space s n m = refl
+
+far_at_timer : (c : Settings) (h : List Event) (time : ℕ) (space : Space) (p : Packet) (most : Option ℕ) → is_far c (Timer time Loss space ∷ h) p most ≡ is_far c h p most
+far_at_timer c h time space p None = refl
+far_at_timer c h time space p (Some m) = ap (λ d. nat_lt p.number m && nat_le c.options.packet_threshold d) (distance_at_timer c.options.threshold_counts h time space p.space p.number m)
+
 -- ---- what an early timer finds
 
 -- it was sent at one time
@@ -107,13 +118,13 @@ pub record IsSentAt (first : ℕ) (lost : List Packet) : Type 0 where
   pub each : (p : Packet) → Contains lost p → p.time ≡ first
 
 pub early_finds : (c : Settings) (h : List Event) (time : ℕ) (space : Space) → IsRun c (Timer time Loss space ∷ h) → AllByRecursion IsProperEvent h → is_before time (deadline c h) ≡ true
-    → (first : ℕ) × IsSentAt first (owed c (Timer time Loss space ∷ h)) × ((due : Due) → deadline c h ≡ Some due → first + loss_delay (granularity c) (rtt c h) ≡ due.time)
+    → (first : ℕ) × IsSentAt first (owed c (Timer time Loss space ∷ h)) × ((due : Due) → deadline c h ≡ Some due → first + loss_delay c (rtt c h) ≡ due.time)
 early_finds c h time space run proper soon =
     let e = Timer time Loss space in
     let r = rtt c h in
     let set = set_for c h time space run in
     let before = ltb-true time set.due.time (rw set.set at soon) in
-    let delay = loss_delay (granularity c) r in
+    let delay = loss_delay c r in
     let now = looks_at (early c) time (old_at c r h space) in
     let now_is : now ≡ set.due.time = looks_then (early c) time set.due.time (old_at c r h space) set.old before set.soon in
     let sets = sets_from (first_awaiting h space) delay set.due.time set.old in (
@@ -122,13 +133,13 @@ early_finds c h time space run proper soon =
         each = λ p has.
             let found = owed_is c (e ∷ h) p has in
             let both = and_parts (is_of space p) (is_found c (sampled c (e ∷ h)) (e ∷ h) now space p) found.1 in
-            let parts = and_parts (p.in_flight && is_unsettled (e ∷ h) p) (is_past_threshold c r now (largest_acknowledged h space) p) both.1 in
+            let parts = and_parts (p.in_flight && is_unsettled (e ∷ h) p) (is_past_threshold c r (e ∷ h) now (largest_acknowledged h space) p) both.1 in
             let flies = and_parts p.in_flight (is_unsettled (e ∷ h) p) parts.0 in
             let of_space : space ≡ p.space = is_space_is space p.space both.0 in
             let flying = asked_was_flying c e h (tolerated_run_of c (e ∷ h) run) space now refl p found.0 (and_from (is_of space p) (p.in_flight && is_unsettled (e ∷ h) p) both.0 parts.0) in
-            let near : is_may c.options.loss_by_number ≡ false → is_far c p (largest_acknowledged h space) ≡ false =
-            λ must. subst (λ (s : Space). is_far c p (largest_acknowledged h s) ≡ false) (sym of_space) (flying_is_near c h must run.0 proper p found.0 flying) in
-            let old = old_unless_far c r now (largest_acknowledged h space) p parts.1 near in
+            let near : is_may c.options.loss_by_number ≡ false → is_far c (e ∷ h) p (largest_acknowledged h space) ≡ false =
+            λ must. far_at_timer c h time space p (largest_acknowledged h space) ∙ subst (λ (s : Space). is_far c h p (largest_acknowledged h s) ≡ false) (sym of_space) (flying_is_near c h must run.0 proper p found.0 flying) in
+            let old = old_unless_far c r (e ∷ h) now (largest_acknowledged h space) p parts.1 near in
             let waited : delay ≤ now - p.time = (old_is_after_loss_delay c r now p).0 old.0 in
             let below : is_below_largest p.number (largest_acknowledged h p.space) ≡ true = subst (λ (s : Space). is_below_largest p.number (largest_acknowledged h s) ≡ true) of_space old.1 in
             let unsettled = unsettled_before e h p flies.1 in
@@ -142,10 +153,10 @@ early_finds c h time space run proper soon =
 -- each was old at the deadline
 pub early_finds_old_at_deadline : (c : Settings) (h : List Event) (time : ℕ) (space : Space) → IsRun c (Timer time Loss space ∷ h) → AllByRecursion IsProperEvent h
     → is_before time (deadline c h) ≡ true → (p : Packet) → Contains (owed c (Timer time Loss space ∷ h)) p → (due : Due) → deadline c h ≡ Some due
-    → p.time + loss_delay (granularity c) (rtt c h) ≡ due.time
+    → p.time + loss_delay c (rtt c h) ≡ due.time
 early_finds_old_at_deadline c h time space run proper soon p has due is =
     let finds = early_finds c h time space run proper soon in
-    ap (λ n. n + loss_delay (granularity c) (rtt c h)) (finds.1.each p has) ∙ finds.2 due is
+    ap (λ n. n + loss_delay c (rtt c h)) (finds.1.each p has) ∙ finds.2 due is
 
 -- any two of them
 pub early_finds_one_time : (c : Settings) (h : List Event) (time : ℕ) (space : Space) → IsRun c (Timer time Loss space ∷ h) → AllByRecursion IsProperEvent h → is_before time (deadline c h) ≡ true

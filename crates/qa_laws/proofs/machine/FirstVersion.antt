@@ -1,10 +1,10 @@
 -- A header without a limit, a refresh and slack asks what one of version 1 does.
-use Rattle.std.proofs.Common.{◌+◌, ◌*◌, ◌≡◌, ◌∙◌, ◌<◌, ◌&&◌, ℕ, List, [], ◌∷◌, ◌++◌, Bool, true, false, ◌==◌, not, Option, Some, None, Ok, refl, sym, ap, arith, inl, inr, mul-zero}
+use Rattle.std.proofs.Common.{ap₂, ◌+◌, ◌*◌, ◌≡◌, ◌∙◌, ◌<◌, ◌&&◌, ℕ, List, [], ◌∷◌, ◌++◌, Bool, true, false, ◌==◌, not, Option, Some, None, Ok, refl, sym, ap, arith, inl, inr, mul-zero}
 use Rattle.std.proofs.lemmas.Bool.{false≢true, cases_eq, cases_lt, eq-eqb, ne_eqb, le-ltb, lt-ltb}
 use Rattle.std.specs.List.{AllByRecursion}
 use Rattle.std.specs.Prelude.{nat_lt, if◌then◌else◌}
 use Rattle.qa_base.specs.declared.event.Event.{Event}
-use Rattle.qa_base.specs.declared.event.Event.TheVariants.{Metrics}
+use Rattle.qa_base.specs.declared.event.Event.TheVariants.{Lost, Metrics}
 use Rattle.qa_base.specs.declared.event.MetricValues.{MetricValues}
 use Rattle.qa_base.specs.declared.header.Version.TheVariants.{One}
 use Rattle.qa_format.specs.declared.line.Line.TheVariants as line
@@ -17,10 +17,11 @@ use Rattle.qa_base.specs.declared.space.Controller.TheVariants.{NewReno, Reporte
 use Rattle.qa_base.specs.declared.totals.Totals.{Totals}
 use Rattle.qa_format.specs.format.Reading.{reading}
 use Rattle.qa_base.specs.machine.Breaches.{is_above_collapse, is_collapse_missing, is_timer_late, is_late_by}
-use Rattle.qa_base.specs.machine.Estimates.{refreshed_by, rtt, sampled}
+use Rattle.qa_base.specs.machine.Estimates.{rtt, sampled, with_sample_of}
 use Rattle.qa_base.specs.machine.FirstVersion.{rtt_by_samples, is_another, exact_tests_of, exact_tests}
 use Rattle.qa_base.specs.machine.Metrics.{differs, tests, metric_tests}
-use Rattle.qa_base.specs.machine.Rtt.{Estimate, sample_of, updated, distance}
+use Rattle.qa_base.specs.machine.Rtt.{Estimate, after_congestion, distance, refreshed, reset, sample_of, updated}
+use Rattle.qa_base.specs.machine.Detection.{is_persistent_by}
 use Rattle.qa_base.specs.machine.Rules.{broken, first_of, first_broken}
 use Rattle.qa_base.specs.machine.State.{totals}
 use Rattle.qa_base.specs.machine.Window.{acknowledged_since_collapse, other_window}
@@ -31,20 +32,29 @@ use Rattle.qa_format.proofs.format.ProperReadings.{reading_is_proper}
 
 -- ---- the RTT
 
-never_refreshed : (refresh : Bool) (c : Settings) (h : List Event) (r : Estimate) → refresh ≡ false → refreshed_by refresh c h r ≡ r
-never_refreshed true c h r none = cc
-never_refreshed false c h r none = refl
+neither : (initial_rtt : ℕ) (resets refreshes : Bool) (r : Estimate) → resets ≡ false → refreshes ≡ false
+    → (if resets then reset initial_rtt r else (if refreshes then refreshed r else r)) ≡ r
+neither initial_rtt true refreshes r none no_refresh = cc
+neither initial_rtt false true r none no_refresh = cc
+neither initial_rtt false false r none no_refresh = refl
 
--- without a refresh it is that of the samples
-pub rtt_is_by_samples : (c : Settings) (h : List Event) → c.options.refresh_min_rtt ≡ false → rtt c h ≡ rtt_by_samples c h
-rtt_is_by_samples c [] none = refl
-rtt_is_by_samples c (e ∷ h) none =
-    never_refreshed c.options.refresh_min_rtt c (e ∷ h) (sampled c (e ∷ h)) none
-    ∙ ap (λ r. updated r (sample_of c (e ∷ h))) (rtt_is_by_samples c h none)
+-- persistent congestion leaves the estimate
+pub never_changed : (c : Settings) (is_persistent : Bool) (r : Estimate) → c.options.reset_rtt ≡ false → c.options.refresh_min_rtt ≡ false → after_congestion c is_persistent r ≡ r
+never_changed c true r none no_refresh = neither c.initial_rtt c.options.reset_rtt c.options.refresh_min_rtt r none no_refresh
+never_changed c false r none no_refresh = refl
 
-pub sampled_is_by_samples : (c : Settings) (h : List Event) → c.options.refresh_min_rtt ≡ false → sampled c h ≡ rtt_by_samples c h
-sampled_is_by_samples c [] none = refl
-sampled_is_by_samples c (e ∷ h) none = ap (λ r. updated r (sample_of c (e ∷ h))) (rtt_is_by_samples c h none)
+-- without a reset and a refresh, and where samples are kept whole, it is that of the samples
+pub rtt_is_by_samples : (c : Settings) (h : List Event) → c.options.reset_rtt ≡ false → c.options.refresh_min_rtt ≡ false → c.options.latest_rtt_less_delay ≡ false → rtt c h ≡ rtt_by_samples c h
+rtt_is_by_samples c [] none no_refresh whole = refl
+rtt_is_by_samples c (e ∷ h) none no_refresh whole =
+    never_changed c (is_persistent_by c (sampled c (e ∷ h)) (e ∷ h)) (with_sample_of c (e ∷ h) (rtt c h)) none no_refresh
+    ∙ ap₂ (λ less r. updated less r (sample_of c (e ∷ h))) whole (rtt_is_by_samples c h none no_refresh whole)
+
+pub sampled_is_by_samples : (c : Settings) (h : List Event) → c.options.reset_rtt ≡ false → c.options.refresh_min_rtt ≡ false → c.options.latest_rtt_less_delay ≡ false → sampled c h ≡ rtt_by_samples c h
+sampled_is_by_samples c [] none no_refresh whole = refl
+sampled_is_by_samples c (Lost time space ranges ∷ h) none no_refresh whole = sampled_is_by_samples c h none no_refresh whole
+sampled_is_by_samples c (e ∷ h) none no_refresh whole =
+    ap₂ (λ less r. updated less r (sample_of c (e ∷ h))) whole (rtt_is_by_samples c h none no_refresh whole)
 
 -- ---- late timers
 

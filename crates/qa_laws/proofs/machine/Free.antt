@@ -1,12 +1,12 @@
 -- What is free after a detection, and what a Lost line takes of it.
 use Rattle.std.specs.List.{list_any}
-use Rattle.std.proofs.Common.{◌≡◌, ◌∙◌, ◌+◌, ◌-◌, ◌<◌, ◌≤◌, ℕ, List, [], ◌∷◌, true, false, ◌&&◌, ◌||◌, not, Option, Some, None, refl, sym, ap, arith, subst, Contains, sum_by, filter, Bool}
+use Rattle.std.proofs.Common.{◌≡◌, ◌∙◌, ◌+◌, ◌<◌, ◌≤◌, ℕ, List, [], ◌∷◌, true, false, ◌&&◌, ◌||◌, not, Option, Some, None, refl, sym, ap, arith, subst, Contains, sum_by, filter, Bool}
 use Rattle.std.proofs.lemmas.Bool.{and_from, and_parts, both_ways, false_from_ne_true, leb-true, lt-ltb, ltb-true, not-true, or_right}
 use Rattle.std.specs.Prelude.{nat_le, nat_lt, if◌then◌else◌}
 use Rattle.qa_base.specs.declared.event.Event.{Event}
 use Rattle.qa_base.specs.declared.event.Event.TheVariants.{Ack, Lost, Timer, Discard}
 use Rattle.qa_base.specs.declared.space.Space.{Space}
-use Rattle.qa_base.specs.machine.Detection.{all_at, is_at, is_found, is_left, is_old, is_past_threshold, is_unsettled, may_be_spared}
+use Rattle.qa_base.specs.machine.Detection.{all_at, distance_below, is_at, is_far_below, is_found, is_left, is_old, is_past_threshold, is_unsettled, may_be_spared}
 use Rattle.qa_base.specs.machine.Estimates.{sampled}
 use Rattle.qa_base.specs.machine.Loss.{bytes_in_flight, declared, detection, free, is_free, is_open, is_owed}
 use Rattle.qa_base.specs.machine.Packets.{Packet, packets, is_of, largest_acknowledged}
@@ -34,24 +34,26 @@ free_here c h p has = (part_is (is_free c h) (packets h) p (subst (λ (ps : List
 record IsSpared (c : Settings) (h : List Event) (p : Packet) (now : ℕ) (most : Option ℕ) : Type 0 where
   largest : ℕ
   is : most ≡ Some largest
-  below : p.number + c.options.packet_threshold ≤ largest
+  lower : p.number < largest
+  below : c.options.packet_threshold ≤ distance_below c.options.threshold_counts h p.space p.number largest
   young : is_old c (sampled c h) now p ≡ false
 
-spared_is : (c : Settings) (h : List Event) (p : Packet) (now : ℕ) (most : Option ℕ) → may_be_spared c (sampled c h) now most p ≡ true → IsSpared c h p now most
+spared_is : (c : Settings) (h : List Event) (p : Packet) (now : ℕ) (most : Option ℕ) → may_be_spared c (sampled c h) h now most p ≡ true → IsSpared c h p now most
 spared_is c h p now None is = cc
 spared_is c h p now (Some m) is =
-    let far = nat_le c.options.packet_threshold (m - p.number) in
+    let distance = distance_below c.options.threshold_counts h p.space p.number m in
+    let far = nat_le c.options.packet_threshold distance in
     let young = and_parts (nat_lt p.number m && (is_may c.options.loss_by_number && far)) (not (is_old c (sampled c h) now p)) is in
     let both = and_parts (nat_lt p.number m) (is_may c.options.loss_by_number && far) young.0 in
     let below = ltb-true p.number m both.0 in
-    let three = leb-true c.options.packet_threshold (m - p.number) (and_parts (is_may c.options.loss_by_number) far both.1).1 in
-    record { largest = m; is = refl; below = omega (arith, below, three); young = not-true (is_old c (sampled c h) now p) young.1 }
+    let three = leb-true c.options.packet_threshold distance (and_parts (is_may c.options.loss_by_number) far both.1).1 in
+    record { largest = m; is = refl; lower = below; below = three; young = not-true (is_old c (sampled c h) now p) young.1 }
 
 pub free_is_far : (c : Settings) (h : List Event) (p : Packet) → Contains (free c h) p → IsFarBelow c h p
 free_is_far c h p has =
     let left = free_is_left c h p (free_here c h p has) in
     let spared = spared_is c h p left.now (largest_acknowledged h p.space) left.spared in
-    record { largest = spared.largest; acknowledged = spared.is; below = spared.below }
+    record { largest = spared.largest; acknowledged = spared.is; lower = spared.lower; below = spared.below }
 
 same_now : (space other : Space) (now then_ : ℕ) → ◌≡◌ {A = Option (Space × ℕ)} (Some (space, now)) (Some (other, then_)) → then_ ≡ now
 same_now space other now then_ is = let both : ◌≡◌ {A = Space × ℕ} (space, now) (other, then_) = cc in sym (ap (λ (d : Space × ℕ). d.1) both)
@@ -76,11 +78,11 @@ none_is_free c h none = ap (all_at (is_left c (sampled c h) h) h) none
 -- ---- what is open is young
 
 past_if_old : (c : Settings) (h : List Event) (p : Packet) (now : ℕ) (most : Option ℕ) (m : ℕ) → most ≡ Some m → p.number < m → is_old c (sampled c h) now p ≡ true
-    → is_past_threshold c (sampled c h) now most p ≡ true
+    → is_past_threshold c (sampled c h) h now most p ≡ true
 past_if_old c h p now None m is less old = cc
 past_if_old c h p now (Some k) m is less old =
     let same : k ≡ m = cc in
-    let far = not (is_may c.options.loss_by_number) && nat_le c.options.packet_threshold (k - p.number) in
+    let far = not (is_may c.options.loss_by_number) && is_far_below c h k p in
     and_from (nat_lt p.number k) (far || is_old c (sampled c h) now p) (lt-ltb p.number k (omega (arith, less, same))) (or_right far (is_old c (sampled c h) now p) old)
 
 pub flying_is_young : (c : Settings) (h : List Event) (p : Packet) (now largest : ℕ) → is_flying c h p ≡ true → detection c h ≡ Some (p.space, now)
@@ -92,7 +94,7 @@ flying_is_young c h p now largest flying at most less = false_from_ne_true (is_o
     let past = past_if_old c h p now (largest_acknowledged h p.space) largest most less old in
     let found : is_at (is_found c r h) p (Some (p.space, now)) ≡ true =
     and_from (is_of p.space p) (is_found c r h now p.space p) (is_space_same p.space)
-    (and_from (p.in_flight && is_unsettled h p) (is_past_threshold c r now (largest_acknowledged h p.space) p) (and_from p.in_flight (is_unsettled h p) flies.0 opens.unsettled) past) in
+    (and_from (p.in_flight && is_unsettled h p) (is_past_threshold c r h now (largest_acknowledged h p.space) p) (and_from p.in_flight (is_unsettled h p) flies.0 opens.unsettled) past) in
     both_ways (is_owed c h p) opens.free (ap (is_at (is_found c r h) p) at ∙ found))
 
 -- ---- quiet events by which nothing is lost

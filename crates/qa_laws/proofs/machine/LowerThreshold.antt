@@ -1,5 +1,5 @@
 -- Where packets that lie the packet threshold behind may be spared, a lower threshold frees more and owes the same.
-use Rattle.std.proofs.Common.{◌≡◌, ◌∙◌, ◌+◌, ◌-◌, ◌≤◌, ℕ, List, [], ◌∷◌, Bool, true, false, ◌&&◌, ◌||◌, not, Option, Some, None, refl, sym, ap, arith, Contains, filter, inl, inr, ◌⊎◌}
+use Rattle.std.proofs.Common.{◌≡◌, ◌∙◌, ◌+◌, ◌≤◌, ℕ, List, [], ◌∷◌, Bool, true, false, ◌&&◌, ◌||◌, not, Option, Some, None, refl, sym, ap, arith, Contains, filter, inl, inr, ◌⊎◌}
 use Rattle.std.proofs.lemmas.Bool.{and_from, and_parts, and_right, both_ways, false_from_ne_true, le-leb, leb-true, ltb-true, not-false, or_cases, or_left, or_right}
 use Rattle.std.specs.List.{list_all, list_any}
 use Rattle.std.specs.Prelude.{nat_eq, nat_le, nat_lt, if◌then◌else◌}
@@ -7,7 +7,7 @@ use Rattle.qa_base.specs.declared.event.Event.{Event}
 use Rattle.qa_base.specs.declared.event.Event.TheVariants.{Lost}
 use Rattle.qa_base.specs.declared.space.Space.{Space}
 use Rattle.qa_base.specs.machine.Breaches.{is_loss_not_owed, is_other_loss_set, numbers}
-use Rattle.qa_base.specs.machine.Detection.{detection_by, is_at, is_found, is_free_by, is_left, is_old, is_owed_by, is_past_threshold, is_unsettled, may_be_spared}
+use Rattle.qa_base.specs.machine.Detection.{detection_by, distance_below, is_at, is_found, is_free_by, is_left, is_old, is_owed_by, is_past_threshold, is_unsettled, may_be_spared}
 use Rattle.qa_base.specs.machine.Estimates.{sampled}
 use Rattle.qa_base.specs.machine.Loss.{is_free, is_nameable, is_owed, nameable, owed}
 use Rattle.qa_base.specs.machine.Numbers.{has_all, has_next, has_range, is_in, names_between}
@@ -37,27 +37,28 @@ at_most : (c : Settings) (t : Tolerances) → NoStricter c t → t.packet_thresh
 at_most c t (asked, inl same) = omega (arith, same)
 at_most c t (asked, inr no_higher) = no_higher.1
 
-spared_more : (c : Settings) (t : Tolerances) → NoStricter c t → (r : Estimate) (now : ℕ) (most : Option ℕ) (p : Packet) → may_be_spared c r now most p ≡ true → may_be_spared (like c t) r now most p ≡ true
-spared_more c t no_stricter r now None p is = cc
-spared_more c t no_stricter r now (Some m) p is =
+spared_more : (c : Settings) (t : Tolerances) → NoStricter c t → (r : Estimate) (h : List Event) (now : ℕ) (most : Option ℕ) (p : Packet) → may_be_spared c r h now most p ≡ true → may_be_spared (like c t) r h now most p ≡ true
+spared_more c t no_stricter r h now None p is = cc
+spared_more c t no_stricter r h now (Some m) p is =
     let may = is_may c.options.loss_by_number in
-    let young = and_parts (nat_lt p.number m && (may && nat_le c.options.packet_threshold (m - p.number))) (not (is_old c r now p)) is in
-    let both = and_parts (nat_lt p.number m) (may && nat_le c.options.packet_threshold (m - p.number)) young.0 in
-    let by_number = and_parts may (nat_le c.options.packet_threshold (m - p.number)) both.1 in
-    let far = leb-true c.options.packet_threshold (m - p.number) by_number.1 in
+    let distance = distance_below c.options.threshold_counts h p.space p.number m in
+    let young = and_parts (nat_lt p.number m && (may && nat_le c.options.packet_threshold distance)) (not (is_old c r now p)) is in
+    let both = and_parts (nat_lt p.number m) (may && nat_le c.options.packet_threshold distance) young.0 in
+    let by_number = and_parts may (nat_le c.options.packet_threshold distance) both.1 in
+    let far = leb-true c.options.packet_threshold distance by_number.1 in
     let less = at_most c t no_stricter in
     let may_too : is_may t.loss_by_number ≡ true = ap is_may no_stricter.0 ∙ by_number.0 in
-    and_from (nat_lt p.number m && (is_may t.loss_by_number && nat_le t.packet_threshold (m - p.number))) (not (is_old c r now p))
-    (and_from (nat_lt p.number m) (is_may t.loss_by_number && nat_le t.packet_threshold (m - p.number)) both.0
-    (and_from (is_may t.loss_by_number) (nat_le t.packet_threshold (m - p.number)) may_too (le-leb t.packet_threshold (m - p.number) (omega (arith, far, less))))) young.1
+    and_from (nat_lt p.number m && (is_may t.loss_by_number && nat_le t.packet_threshold distance)) (not (is_old c r now p))
+    (and_from (nat_lt p.number m) (is_may t.loss_by_number && nat_le t.packet_threshold distance) both.0
+    (and_from (is_may t.loss_by_number) (nat_le t.packet_threshold distance) may_too (le-leb t.packet_threshold distance (omega (arith, far, less))))) young.1
 
 left_more : (c : Settings) (t : Tolerances) → NoStricter c t → (r : Estimate) (h : List Event) (p : Packet) (d : Option (Space × ℕ)) → is_at (is_left c r h) p d ≡ true → is_at (is_left (like c t) r h) p d ≡ true
 left_more c t no_stricter r h p None is = cc
 left_more c t no_stricter r h p (Some d) is =
     let parts = and_parts (is_of d.0 p) (is_left c r h d.1 d.0 p) is in
-    let more = and_parts (p.in_flight && is_unsettled h p) (may_be_spared c r d.1 (largest_acknowledged h d.0) p) parts.1 in
+    let more = and_parts (p.in_flight && is_unsettled h p) (may_be_spared c r h d.1 (largest_acknowledged h d.0) p) parts.1 in
     and_from (is_of d.0 p) (is_left (like c t) r h d.1 d.0 p) parts.0
-    (and_from (p.in_flight && is_unsettled h p) (may_be_spared (like c t) r d.1 (largest_acknowledged h d.0) p) more.0 (spared_more c t no_stricter r d.1 (largest_acknowledged h d.0) p more.1))
+    (and_from (p.in_flight && is_unsettled h p) (may_be_spared (like c t) r h d.1 (largest_acknowledged h d.0) p) more.0 (spared_more c t no_stricter r h d.1 (largest_acknowledged h d.0) p more.1))
 
 -- what is free is so under a lower threshold
 frees_more : (c : Settings) (t : Tolerances) → NoStricter c t → (h : List Event) → Detects c t h → (p : Packet) → is_free_by c (sampled c h) h p ≡ true → is_free_by (like c t) (sampled c h) h p ≡ true
@@ -70,11 +71,11 @@ found_not_left : (c : Settings) (r : Estimate) (h : List Event) (p : Packet) (d 
 found_not_left c r h p None is = cc
 found_not_left c r h p (Some d) is =
     let parts = and_parts (is_of d.0 p) (is_found c r h d.1 d.0 p) is in
-    let past = (and_parts (p.in_flight && is_unsettled h p) (is_past_threshold c r d.1 (largest_acknowledged h d.0) p) parts.1).1 in
+    let past = (and_parts (p.in_flight && is_unsettled h p) (is_past_threshold c r h d.1 (largest_acknowledged h d.0) p) parts.1).1 in
     and_right (is_of d.0 p) (is_left c r h d.1 d.0 p)
-    (and_right (p.in_flight && is_unsettled h p) (may_be_spared c r d.1 (largest_acknowledged h d.0) p)
-    (false_from_ne_true (may_be_spared c r d.1 (largest_acknowledged h d.0) p) (λ spared.
-    both_ways (is_past_threshold c r d.1 (largest_acknowledged h d.0) p) (spared_is_young c r d.1 (largest_acknowledged h d.0) p spared) past)))
+    (and_right (p.in_flight && is_unsettled h p) (may_be_spared c r h d.1 (largest_acknowledged h d.0) p)
+    (false_from_ne_true (may_be_spared c r h d.1 (largest_acknowledged h d.0) p) (λ spared.
+    both_ways (is_past_threshold c r h d.1 (largest_acknowledged h d.0) p) (spared_is_young c r h d.1 (largest_acknowledged h d.0) p spared) past)))
 
 owed_not_free : (c : Settings) (t : Tolerances) → NoStricter c t → (h : List Event) → Detects c t h → (p : Packet) → is_owed_by c (sampled c h) h p ≡ true → is_free_by (like c t) (sampled c h) h p ≡ false
 owed_not_free c t no_stricter h detects p is =

@@ -1,16 +1,22 @@
 -- In a run, where losses by number must be declared, a packet that is open and in flight lies less than the packet threshold below the
 -- largest acknowledged number.
-use Rattle.std.proofs.Common.{◌≡◌, ◌∙◌, ◌+◌, ◌-◌, ◌<◌, ◌≤◌, ℕ, List, [], ◌∷◌, length, Bool, true, false, ◌&&◌, ◌||◌, not, Option, Some, None, refl, sym, ap, arith, subst, Contains, inl, inr, ◌⊎◌}
+use Rattle.std.proofs.Common.{◌≡◌, ◌∙◌, ◌<◌, ◌≤◌, ℕ, List, [], ◌∷◌, length, count_by, Bool, true, false, ◌&&◌, ◌||◌, not, Option, Some, None, refl, sym, ap, arith, subst, Contains, inl, inr, ◌⊎◌}
 use Rattle.std.proofs.lemmas.Bool.{and_parts, and_from, both_ways, le-leb, le-ltb, leb-false, leb-true, lt-ltb, ltb-true, not-true, not_from_false, or_cases, or_left}
 use Rattle.std.specs.List.{AllByRecursion}
 use Rattle.std.specs.Prelude.{nat_lt, nat_le, if◌then◌else◌}
 use Rattle.qa_base.specs.declared.event.Event.{Event}
 use Rattle.qa_base.specs.declared.event.Event.TheVariants.{Sent, Ack}
 use Rattle.qa_base.specs.declared.space.Space.{Space}
-use Rattle.qa_base.specs.machine.Detection.{is_at, is_found, is_old, is_past_threshold, is_unsettled, may_be_spared}
+use Rattle.qa_base.specs.declared.space.ThresholdCounts.{ThresholdCounts}
+use Rattle.qa_base.specs.declared.space.ThresholdCounts.TheVariants.{Numbers, Packets}
+use Rattle.std.proofs.lemmas.Bool.Decides.{nat_tests}
+use Rattle.std.proofs.lemmas.List.Sums.{sum_by-cons}
+use Rattle.qa_base.proofs.history.Thresholds.{distance_rises}
+use Rattle.qa_base.specs.machine.Detection.{count_between, distance_below, is_at, is_far_below, is_found, is_old, is_past_threshold, is_unsettled, may_be_spared}
 use Rattle.qa_base.specs.machine.Estimates.{sampled}
 use Rattle.qa_base.specs.machine.Loss.{detection, is_free, is_open, is_owed}
 use Rattle.qa_base.specs.machine.Order.{IsLower, NumbersFall}
+use Rattle.qa_base.specs.machine.Packets.{packet_at, is_of, packets_of}
 use Rattle.qa_base.specs.machine.Packets.{Packet, acknowledges_new, greatest, greatest_in, is_acknowledged, is_declared_lost, is_followed_by, is_newly_acknowledged, is_of, largest_acknowledged, newly_acknowledged, packets, packet_at}
 use Rattle.qa_base.specs.machine.Rtt.{Estimate}
 use Rattle.qa_base.specs.machine.Rules.{IsRun}
@@ -82,10 +88,10 @@ acknowledged_at_most (Ack ack) h q is =
     (raised_by (is_space q.space ack.space) q.number (greatest ack.ranges) (largest_acknowledged h q.space) both.0 (named_at_most ack.ranges q.number both.1))
 acknowledged_at_most _ h q is = cc
 
-past_at_most : (c : Settings) (r : Estimate) (now : ℕ) (most : Option ℕ) (q : Packet) → is_past_threshold c r now most q ≡ true → IsAtMost q.number most
-past_at_most c r now None q is = cc
-past_at_most c r now (Some m) q is =
-    let less = ltb-true q.number m (and_parts (nat_lt q.number m) ((not (is_may c.options.loss_by_number) && nat_le c.options.packet_threshold (m - q.number)) || is_old c r now q) is).0 in
+past_at_most : (c : Settings) (r : Estimate) (h : List Event) (now : ℕ) (most : Option ℕ) (q : Packet) → is_past_threshold c r h now most q ≡ true → IsAtMost q.number most
+past_at_most c r h now None q is = cc
+past_at_most c r h now (Some m) q is =
+    let less = ltb-true q.number m (and_parts (nat_lt q.number m) ((not (is_may c.options.loss_by_number) && is_far_below c h m q) || is_old c r now q) is).0 in
     omega (arith, less)
 
 found_at_most : (c : Settings) (h : List Event) (q : Packet) (d : Option (Space × ℕ)) → is_at (is_found c (sampled c h) h) q d ≡ true → IsAtMost q.number (largest_acknowledged h q.space)
@@ -93,13 +99,13 @@ found_at_most c h q None is = cc
 found_at_most c h q (Some (s, now)) is =
     let r = sampled c h in
     let both = and_parts (is_of s q) (is_found c r h now s q) is in
-    let past = and_parts (q.in_flight && is_unsettled h q) (is_past_threshold c r now (largest_acknowledged h s) q) both.1 in
-    subst (λ (t : Space). IsAtMost q.number (largest_acknowledged h t)) (is_space_is s q.space both.0) (past_at_most c r now (largest_acknowledged h s) q past.1)
+    let past = and_parts (q.in_flight && is_unsettled h q) (is_past_threshold c r h now (largest_acknowledged h s) q) both.1 in
+    subst (λ (t : Space). IsAtMost q.number (largest_acknowledged h t)) (is_space_is s q.space both.0) (past_at_most c r h now (largest_acknowledged h s) q past.1)
 
-spared_at_most : (c : Settings) (r : Estimate) (now : ℕ) (most : Option ℕ) (q : Packet) → may_be_spared c r now most q ≡ true → IsAtMost q.number most
-spared_at_most c r now None q is = cc
-spared_at_most c r now (Some m) q is =
-    let by_number = is_may c.options.loss_by_number && nat_le c.options.packet_threshold (m - q.number) in
+spared_at_most : (c : Settings) (r : Estimate) (h : List Event) (now : ℕ) (most : Option ℕ) (q : Packet) → may_be_spared c r h now most q ≡ true → IsAtMost q.number most
+spared_at_most c r h now None q is = cc
+spared_at_most c r h now (Some m) q is =
+    let by_number = is_may c.options.loss_by_number && is_far_below c h m q in
     let young = and_parts (nat_lt q.number m && by_number) (not (is_old c r now q)) is in
     let less = ltb-true q.number m (and_parts (nat_lt q.number m) by_number young.0).0 in
     omega (arith, less)
@@ -107,7 +113,7 @@ spared_at_most c r now (Some m) q is =
 free_at_most : (c : Settings) (h : List Event) (q : Packet) → is_free c h q ≡ true → IsAtMost q.number (largest_acknowledged h q.space)
 free_at_most c h q is =
     let left = free_is_left c h q is in
-    spared_at_most c (sampled c h) left.now (largest_acknowledged h q.space) q left.spared
+    spared_at_most c (sampled c h) h left.now (largest_acknowledged h q.space) q left.spared
 
 taken_at_most : (c : Settings) (e : Event) (h : List Event) (q : Packet) → (is_owed c h q || is_named_free c e h q) ≡ true → IsAtMost q.number (largest_acknowledged h q.space)
 taken_at_most c e h q is = elim (or_cases (is_owed c h q) (is_named_free c e h q) is) [
@@ -146,50 +152,86 @@ settled_at_most c (e ∷ h) run q has settled = elim (sent_or_before e h q has) 
 -- ---- how far below the largest acknowledged number
 
 -- past the packet threshold, by which packets must be lost where the header does not let the sender spare them
-abbrev pub is_far : Settings → Packet → Option ℕ → Bool
-is_far c p None = false
-is_far c p (Some m) = nat_lt p.number m && nat_le c.options.packet_threshold (m - p.number)
+abbrev pub is_far : Settings → List Event → Packet → Option ℕ → Bool
+is_far c h p None = false
+is_far c h p (Some m) = nat_lt p.number m && is_far_below c h m p
 
-far_is_past : (c : Settings) (r : Estimate) (now : ℕ) (most : Option ℕ) (p : Packet) → is_may c.options.loss_by_number ≡ false → is_far c p most ≡ true → is_past_threshold c r now most p ≡ true
-far_is_past c r now None p must is = cc
-far_is_past c r now (Some m) p must is =
-    let both = and_parts (nat_lt p.number m) (nat_le c.options.packet_threshold (m - p.number)) is in
-    and_from (nat_lt p.number m) ((not (is_may c.options.loss_by_number) && nat_le c.options.packet_threshold (m - p.number)) || is_old c r now p) both.0
-    (or_left (not (is_may c.options.loss_by_number) && nat_le c.options.packet_threshold (m - p.number)) (is_old c r now p)
-    (and_from (not (is_may c.options.loss_by_number)) (nat_le c.options.packet_threshold (m - p.number)) (not_from_false (is_may c.options.loss_by_number) must) both.1))
+far_is_past : (c : Settings) (r : Estimate) (h : List Event) (now : ℕ) (most : Option ℕ) (p : Packet) → is_may c.options.loss_by_number ≡ false → is_far c h p most ≡ true → is_past_threshold c r h now most p ≡ true
+far_is_past c r h now None p must is = cc
+far_is_past c r h now (Some m) p must is =
+    let both = and_parts (nat_lt p.number m) (is_far_below c h m p) is in
+    and_from (nat_lt p.number m) ((not (is_may c.options.loss_by_number) && is_far_below c h m p) || is_old c r now p) both.0
+    (or_left (not (is_may c.options.loss_by_number) && is_far_below c h m p) (is_old c r now p)
+    (and_from (not (is_may c.options.loss_by_number)) (is_far_below c h m p) (not_from_false (is_may c.options.loss_by_number) must) both.1))
 
-far_from_more : (c : Settings) (p : Packet) (m : ℕ) (most : Option ℕ) → is_far c p (Some m) ≡ true → IsAtMost m most → is_far c p most ≡ true
-far_from_more c p m None is le = absurd le
-far_from_more c p m (Some k) is le =
-    let both = and_parts (nat_lt p.number m) (nat_le c.options.packet_threshold (m - p.number)) is in
+far_from_more : (c : Settings) (h : List Event) (p : Packet) (m : ℕ) (most : Option ℕ) → is_far c h p (Some m) ≡ true → IsAtMost m most → is_far c h p most ≡ true
+far_from_more c h p m None is le = absurd le
+far_from_more c h p m (Some k) is le =
+    let counts = c.options.threshold_counts in
+    let both = and_parts (nat_lt p.number m) (is_far_below c h m p) is in
     let less = ltb-true p.number m both.0 in
-    let far = leb-true c.options.packet_threshold (m - p.number) both.1 in
-    and_from (nat_lt p.number k) (nat_le c.options.packet_threshold (k - p.number)) (lt-ltb p.number k (omega (arith, less, le)))
-    (le-leb c.options.packet_threshold (k - p.number) (omega (arith, far, le)))
+    let far = leb-true c.options.packet_threshold (distance_below counts h p.space p.number m) both.1 in
+    let more = distance_rises counts h p.space p.number m k le in
+    and_from (nat_lt p.number k) (is_far_below c h k p) (lt-ltb p.number k (omega (arith, less, le)))
+    (le-leb c.options.packet_threshold (distance_below counts h p.space p.number k) (omega (arith, far, more)))
+
+-- ---- an event counts nothing more up to a number that was sent
+
+one_above : (n m top : ℕ) → top < m → ◌≡◌ {A = ℕ} (if nat_lt n m && nat_le m top then 1 else 0) 0
+one_above n m top above = grind (arith, nat_tests, above)
+
+count_if : (n top : ℕ) (p : Packet) (ps : List Packet) (b : Bool) → (b ≡ true → top < p.number)
+    → count_by (λ (q : Packet). nat_lt n q.number && nat_le q.number top) (if b then p ∷ ps else ps) ≡ count_by (λ (q : Packet). nat_lt n q.number && nat_le q.number top) ps
+count_if n top p ps false above = refl
+count_if n top p ps true above =
+    let a = sum_by-cons (λ (q : Packet). if nat_lt n q.number && nat_le q.number top then 1 else 0) p ps in
+    let none = one_above n p.number top (above refl) in
+    omega (arith, a, none)
+
+count_stays : (c : Settings) (e : Event) (h : List Event) → IsRun c (e ∷ h) → (q : Packet) → Contains (packets h) q → (s : Space) → q.space ≡ s → (n m : ℕ) → q.number ≡ m
+    → count_between (e ∷ h) s n m ≡ count_between h s n m
+count_stays c (Sent packet) h run q has s of_space n m number =
+    let new = packet_at (length h) packet in
+    let falls : NumbersFall (new ∷ packets h) = numbers_fall c (Sent packet ∷ h) (tolerated_run_of c (Sent packet ∷ h) run) in
+    count_if n m new (packets_of h s) (is_of s new) (λ same.
+    let here : is_of new.space q ≡ true = rw (of_space, sym (is_space_is s new.space same)) (is_space_same s) in
+    let lower : q.number < new.number = at_one (IsLower new) (packets h) q falls.0 has here in
+    omega (arith, lower, number))
+count_stays c _ h run q has s of_space n m number = refl
+
+distance_stays : (counts : ThresholdCounts) (c : Settings) (e : Event) (h : List Event) → IsRun c (e ∷ h) → (q : Packet) → Contains (packets h) q → (s : Space) → q.space ≡ s → (n m : ℕ) → q.number ≡ m
+    → distance_below counts (e ∷ h) s n m ≡ distance_below counts h s n m
+distance_stays Numbers c e h run q has s of_space n m number = refl
+distance_stays Packets c e h run q has s of_space n m number = count_stays c e h run q has s of_space n m number
+
+-- so what is far with it was far without it
+far_without : (c : Settings) (e : Event) (h : List Event) → IsRun c (e ∷ h) → (p q : Packet) (m : ℕ) → Contains (packets h) q → q.space ≡ p.space → q.number ≡ m → is_far c (e ∷ h) p (Some m) ≡ is_far c h p (Some m)
+far_without c e h run p q m has same number =
+    ap (λ d. nat_lt p.number m && nat_le c.options.packet_threshold d) (distance_stays c.options.threshold_counts c e h run q has p.space same p.number m number)
 
 -- ---- an acknowledgment of something new finds what is far
 
 owed_by_ack : (c : Settings) (e : Event) (h : List Event) (q p : Packet) → is_may c.options.loss_by_number ≡ false → acknowledges q.space q.number e ≡ true → acknowledges_new (e ∷ h) ≡ true → p.space ≡ q.space → p.in_flight ≡ true
-    → is_unsettled (e ∷ h) p ≡ true → is_far c p (largest_acknowledged (e ∷ h) p.space) ≡ true → is_owed c (e ∷ h) p ≡ true
+    → is_unsettled (e ∷ h) p ≡ true → is_far c (e ∷ h) p (largest_acknowledged (e ∷ h) p.space) ≡ true → is_owed c (e ∷ h) p ≡ true
 owed_by_ack c (Ack ack) h q p must acks new same flies unsettled far =
     let e = Ack ack in
     let r = sampled c (e ∷ h) in
     let of_space : p.space ≡ ack.space = same ∙ is_space_is q.space ack.space (and_parts (is_space q.space ack.space) (is_named ack.ranges q.number) acks).0 in
-    let past : is_past_threshold c r ack.time (largest_acknowledged (e ∷ h) ack.space) p ≡ true =
-    subst (λ (s : Space). is_past_threshold c r ack.time (largest_acknowledged (e ∷ h) s) p ≡ true) of_space (far_is_past c r ack.time (largest_acknowledged (e ∷ h) p.space) p must far) in
+    let past : is_past_threshold c r (e ∷ h) ack.time (largest_acknowledged (e ∷ h) ack.space) p ≡ true =
+    subst (λ (s : Space). is_past_threshold c r (e ∷ h) ack.time (largest_acknowledged (e ∷ h) s) p ≡ true) of_space (far_is_past c r (e ∷ h) ack.time (largest_acknowledged (e ∷ h) p.space) p must far) in
     let here : is_of ack.space p ≡ true = rw of_space (is_space_same ack.space) in
     ap (λ b. is_at (is_found c r (e ∷ h)) p (if◌then◌else◌ {A = Option (Space × ℕ)} b (Some (ack.space, ack.time)) None)) new
     ∙ and_from (is_of ack.space p) (is_found c r (e ∷ h) ack.time ack.space p) here
-    (and_from (p.in_flight && is_unsettled (e ∷ h) p) (is_past_threshold c r ack.time (largest_acknowledged (e ∷ h) ack.space) p) (and_from p.in_flight (is_unsettled (e ∷ h) p) flies unsettled) past)
+    (and_from (p.in_flight && is_unsettled (e ∷ h) p) (is_past_threshold c r (e ∷ h) ack.time (largest_acknowledged (e ∷ h) ack.space) p) (and_from p.in_flight (is_unsettled (e ∷ h) p) flies unsettled) past)
 owed_by_ack c _ h q p must acks new same flies unsettled far = cc
 
 -- ---- no packet that is open and in flight is far
 
-far_before : (c : Settings) (e : Event) (h : List Event) (p q : Packet) (m : ℕ) → is_may c.options.loss_by_number ≡ false → IsRun c (e ∷ h) → is_flying c (e ∷ h) p ≡ true → is_far c p (largest_acknowledged (e ∷ h) p.space) ≡ true
-    → is_far c p (Some m) ≡ true → Contains (packets h) q → q.space ≡ p.space → q.number ≡ m → is_acknowledged (e ∷ h) q ≡ true → (was : Bool) → is_unsettled h q ≡ was
-    → is_far c p (largest_acknowledged h p.space) ≡ true
+far_before : (c : Settings) (e : Event) (h : List Event) (p q : Packet) (m : ℕ) → is_may c.options.loss_by_number ≡ false → IsRun c (e ∷ h) → is_flying c (e ∷ h) p ≡ true → is_far c (e ∷ h) p (largest_acknowledged (e ∷ h) p.space) ≡ true
+    → is_far c h p (Some m) ≡ true → Contains (packets h) q → q.space ≡ p.space → q.number ≡ m → is_acknowledged (e ∷ h) q ≡ true → (was : Bool) → is_unsettled h q ≡ was
+    → is_far c h p (largest_acknowledged h p.space) ≡ true
 far_before c e h p q m must run flying far_now far has same number covered false was =
-    far_from_more c p m (largest_acknowledged h p.space) far
+    far_from_more c h p m (largest_acknowledged h p.space) far
     (subst (λ (n : ℕ). IsAtMost n (largest_acknowledged h p.space)) number (subst (λ (s : Space). IsAtMost q.number (largest_acknowledged h s)) same (settled_at_most c h run.0 q has was)))
 far_before c e h p q m must run flying far_now far has same number covered true was =
     let neither = and_parts (not (is_acknowledged h q)) (not (is_declared_lost h q)) was in
@@ -202,28 +244,28 @@ far_before c e h p q m must run flying far_now far has same number covered true 
     absurd (both_ways (is_owed c (e ∷ h) p) opens.free (owed_by_ack c e h q p must acks new (sym same) flies.0 opens.unsettled far_now))
 
 new_is_near : (c : Settings) (e : Event) (h : List Event) (p q : Packet) (m : ℕ) → IsRun c (e ∷ h) → packets (e ∷ h) ≡ p ∷ packets h → Contains (packets h) q → q.space ≡ p.space → q.number ≡ m
-    → is_far c p (Some m) ≡ true → ⊥
+    → is_far c (e ∷ h) p (Some m) ≡ true → ⊥
 new_is_near c e h p q m run all has same number far =
     let falls = subst (λ (ps : List Packet). NumbersFall ps) all (numbers_fall c (e ∷ h) (tolerated_run_of c (e ∷ h) run)) in
     let lower : q.number < p.number = at_one (IsLower p) (packets h) q falls.0 has (rw same (is_space_same p.space)) in
-    let above = ltb-true p.number m (and_parts (nat_lt p.number m) (nat_le c.options.packet_threshold (m - p.number)) far).0 in
+    let above = ltb-true p.number m (and_parts (nat_lt p.number m) (is_far_below c (e ∷ h) m p) far).0 in
     omega (arith, lower, above, number)
 
 never_far : (c : Settings) (e : Event) (h : List Event) → is_may c.options.loss_by_number ≡ false → IsRun c (e ∷ h) → (p : Packet) → Contains (packets (e ∷ h)) p → is_flying c (e ∷ h) p ≡ true
-    → (Contains (packets h) p → is_far c p (largest_acknowledged h p.space) ≡ false) → (most : Option ℕ) → largest_acknowledged (e ∷ h) p.space ≡ most
-    → ((m : ℕ) → largest_acknowledged (e ∷ h) p.space ≡ Some m → Acknowledged (e ∷ h) p.space m) → (far : Bool) → is_far c p most ≡ far → far ≡ false
+    → (Contains (packets h) p → is_far c h p (largest_acknowledged h p.space) ≡ false) → (most : Option ℕ) → largest_acknowledged (e ∷ h) p.space ≡ most
+    → ((m : ℕ) → largest_acknowledged (e ∷ h) p.space ≡ Some m → Acknowledged (e ∷ h) p.space m) → (far : Bool) → is_far c (e ∷ h) p most ≡ far → far ≡ false
 never_far c e h must run p has flying before most largest covers false far = refl
 never_far c e h must run p has flying before None largest covers true far = cc
 never_far c e h must run p has flying before (Some m) largest covers true far =
     let one = covers m largest in
     let q = one.0 in
-    let far_now : is_far c p (largest_acknowledged (e ∷ h) p.space) ≡ true = ap (is_far c p) largest ∙ far in
+    let far_now : is_far c (e ∷ h) p (largest_acknowledged (e ∷ h) p.space) ≡ true = ap (is_far c (e ∷ h) p) largest ∙ far in
     elim (sent_or_before e h q one.1) [
       | inl new ↦ absurd (both_ways (is_acknowledged (e ∷ h) q) (never_follows (acknowledges q.space q.number) e h q new.place) one.4)
       | inr has_q ↦ elim (sent_or_before e h p has) [
         | inl sent ↦ absurd (new_is_near c e h p q m run sent.all has_q one.2 one.3 far)
-        | inr has_p ↦ absurd (both_ways (is_far c p (largest_acknowledged h p.space)) (before has_p)
-            (far_before c e h p q m must run flying far_now far has_q one.2 one.3 one.4 (is_unsettled h q) refl))
+        | inr has_p ↦ absurd (both_ways (is_far c h p (largest_acknowledged h p.space)) (before has_p)
+            (far_before c e h p q m must run flying far_now (sym (far_without c e h run p q m has_q one.2 one.3) ∙ far) has_q one.2 one.3 one.4 (is_unsettled h q) refl))
       ]
     ]
 
@@ -234,18 +276,18 @@ flying_before c e h run p has flying =
 
 -- in a run, where lines can say its events
 pub flying_is_near : (c : Settings) (h : List Event) → is_may c.options.loss_by_number ≡ false → IsRun c h → AllByRecursion IsProperEvent h → (p : Packet) → Contains (packets h) p → is_flying c h p ≡ true
-    → is_far c p (largest_acknowledged h p.space) ≡ false
+    → is_far c h p (largest_acknowledged h p.space) ≡ false
 flying_is_near c [] must run proper p has flying = refl
 flying_is_near c (e ∷ h) must run proper p has flying =
     never_far c e h must run p has flying (λ was. flying_is_near c h must run.0 proper.1 p was (flying_before c e h run p was flying)) (largest_acknowledged (e ∷ h) p.space) refl
-    (λ m most. largest_is_acknowledged c (e ∷ h) run proper p.space m most) (is_far c p (largest_acknowledged (e ∷ h) p.space)) refl
+    (λ m most. largest_is_acknowledged c (e ∷ h) run proper p.space m most) (is_far c (e ∷ h) p (largest_acknowledged (e ∷ h) p.space)) refl
 
-near_if : (c : Settings) (p : Packet) (m : ℕ) (far : Bool) → nat_le c.options.packet_threshold (m - p.number) ≡ far → (nat_lt p.number m && far) ≡ false → p.number < m → m < p.number + c.options.packet_threshold
-near_if c p m true is none less = absurd (both_ways (nat_lt p.number m && true) none (and_from (nat_lt p.number m) true (lt-ltb p.number m less) refl))
-near_if c p m false is none less = let close = leb-false c.options.packet_threshold (m - p.number) is in omega (arith, less, close)
+near_if : (c : Settings) (h : List Event) (p : Packet) (m : ℕ) (far : Bool) → is_far_below c h m p ≡ far → (nat_lt p.number m && far) ≡ false → p.number < m → distance_below c.options.threshold_counts h p.space p.number m < c.options.packet_threshold
+near_if c h p m true is none less = absurd (both_ways (nat_lt p.number m && true) none (and_from (nat_lt p.number m) true (lt-ltb p.number m less) refl))
+near_if c h p m false is none less = leb-false c.options.packet_threshold (distance_below c.options.threshold_counts h p.space p.number m) is
 
--- so it is by numbers
+-- so it is by the distance
 pub flying_below : (c : Settings) (h : List Event) → is_may c.options.loss_by_number ≡ false → IsRun c h → AllByRecursion IsProperEvent h → (p : Packet) → Contains (packets h) p → is_flying c h p ≡ true
-    → (m : ℕ) → largest_acknowledged h p.space ≡ Some m → p.number < m → m < p.number + c.options.packet_threshold
+    → (m : ℕ) → largest_acknowledged h p.space ≡ Some m → p.number < m → distance_below c.options.threshold_counts h p.space p.number m < c.options.packet_threshold
 flying_below c h must run proper p has flying m largest less =
-    near_if c p m (nat_le c.options.packet_threshold (m - p.number)) refl (sym (ap (is_far c p) largest) ∙ flying_is_near c h must run proper p has flying) less
+    near_if c h p m (is_far_below c h m p) refl (sym (ap (is_far c h p) largest) ∙ flying_is_near c h must run proper p has flying) less

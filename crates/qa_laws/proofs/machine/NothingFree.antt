@@ -1,11 +1,11 @@
 -- Where nothing is free, losses that may be declared are those that must be.
-use Rattle.std.proofs.Common.{◌≡◌, ◌∙◌, ◌-◌, ◌↔◌, ℕ, List, [], ◌∷◌, Bool, true, false, ◌&&◌, ◌||◌, not, Option, Some, None, refl, sym, ap, arith, Contains, filter}
+use Rattle.std.proofs.Common.{◌≡◌, ◌∙◌, ◌↔◌, ℕ, List, [], ◌∷◌, Bool, true, false, ◌&&◌, ◌||◌, not, Option, Some, None, refl, sym, ap, arith, Contains, filter}
 use Rattle.std.proofs.lemmas.Bool.{false_from_ne_true}
-use Rattle.std.specs.Prelude.{nat_le, nat_lt}
+use Rattle.std.specs.Prelude.{nat_lt}
 use Rattle.qa_base.specs.declared.event.Event.{Event}
 use Rattle.qa_base.specs.declared.space.LossByNumber.TheVariants.{Must}
 use Rattle.qa_base.specs.declared.space.Space.{Space}
-use Rattle.qa_base.specs.machine.Detection.{detection_by, is_at, is_found, is_left, is_old, is_past_threshold, is_unsettled, may_be_spared}
+use Rattle.qa_base.specs.machine.Detection.{detection_by, is_at, is_far_below, is_found, is_left, is_old, is_past_threshold, is_unsettled, may_be_spared}
 use Rattle.qa_base.specs.machine.Estimates.{sampled}
 use Rattle.qa_base.specs.machine.Loss.{free, is_free, is_nameable, is_owed, nameable, owed}
 use Rattle.qa_base.specs.machine.Packets.{Packet, packets, is_of, largest_acknowledged}
@@ -44,11 +44,11 @@ nothing_left true true true true true true none = refl
 nothing_left true true true true true false none = cc
 
 found_by : (c : Settings) (r : Estimate) (h : List Event) (p : Packet) (s : Space) (now : ℕ) (most : Option ℕ)
-    → (is_of s p && (p.in_flight && is_unsettled h p && may_be_spared c r now most p)) ≡ false
-    → (is_of s p && (p.in_flight && is_unsettled h p && is_past_threshold (where_they_must c) r now most p)) ≡ (is_of s p && (p.in_flight && is_unsettled h p && is_past_threshold c r now most p))
+    → (is_of s p && (p.in_flight && is_unsettled h p && may_be_spared c r h now most p)) ≡ false
+    → (is_of s p && (p.in_flight && is_unsettled h p && is_past_threshold (where_they_must c) r h now most p)) ≡ (is_of s p && (p.in_flight && is_unsettled h p && is_past_threshold c r h now most p))
 found_by c r h p s now None none = refl
 found_by c r h p s now (Some m) none =
-    nothing_left (is_of s p) (p.in_flight && is_unsettled h p) (nat_lt p.number m) (is_may c.options.loss_by_number) (nat_le c.options.packet_threshold (m - p.number)) (is_old c r now p) none
+    nothing_left (is_of s p) (p.in_flight && is_unsettled h p) (nat_lt p.number m) (is_may c.options.loss_by_number) (is_far_below c h m p) (is_old c r now p) none
 
 found_strictly : (c : Settings) (r : Estimate) (h : List Event) (p : Packet) (d : Option (Space × ℕ)) → is_at (is_left c r h) p d ≡ false → is_at (is_found (where_they_must c) r h) p d ≡ is_at (is_found c r h) p d
 found_strictly c r h p None none = refl

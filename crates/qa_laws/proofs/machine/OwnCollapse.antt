@@ -9,9 +9,9 @@ use Rattle.qa_base.specs.declared.event.MetricValues.{MetricValues}
 use Rattle.qa_base.specs.machine.Breaches.{is_above_collapse, is_collapse_missing}
 use Rattle.qa_base.specs.machine.Loss.{declared, is_persistent}
 use Rattle.qa_base.specs.machine.Packets.{Packet, newly_acknowledged}
-use Rattle.qa_base.specs.machine.Reno.{Control, Grow, Move, on_persistent_congestion, persistent_congestions, grows, on_congestion_event, congestion_events, is_app_limited, is_outside_recovery, latest_sent, moved, reno}
+use Rattle.qa_base.specs.machine.Reno.{Control, Grow, Move, on_persistent_congestion, persistent_congestions, grows, on_congestion_event, congestion_events, is_app_limited, is_outside_recovery, latest_sent, moved, reno, event_mark, sent_mark}
 use Rattle.qa_base.specs.machine.Window.{acknowledged_bytes, acknowledged_since_collapse, changes_window, other_window, reported_window, unless_same}
-use Rattle.qa_base.specs.machine.Moments.{detection_of, last_time}
+use Rattle.qa_base.specs.machine.Moments.{detection_of}
 use Rattle.qa_base.proofs.machine.Quiet.{newly-quiet}
 use Rattle.qa_base.specs.declared.event.Event.TheVariants.{Lost}
 use Rattle.qa_base.specs.values.Settings.{AreInRange, Settings, is_reported}
@@ -22,15 +22,15 @@ use Rattle.qa_base.proofs.history.Sending.{sum_turned}
 
 -- ---- growth is by the bytes in flight that are acknowledged
 
-abbrev growths : List Packet → List Move
-growths ps = map (λ p. Grow p.size p.time) ps
+abbrev growths : Settings → List Packet → List Move
+growths c ps = map (λ p. Grow p.size (sent_mark c p)) ps
 
-grown_by : (d : ℕ) (r : Control) (ps : List Packet) → 0 < d → 2 * d ≤ r.window → (fold (moved d) r (growths ps)).window ≤ r.window + sum_by (λ p. p.size) ps
-grown_by d r [] some low = omega arith
-grown_by d r (p ∷ ps) some low =
-    let here = grown_little d r p.size p.time some low in
-    let least = grow_at_least d p.size r (is_outside_recovery r.recovery_start_time p.time) in
-    let rest = grown_by d (moved d r (Grow p.size p.time)) ps some (omega (arith, low, least)) in
+grown_by : (c : Settings) (d : ℕ) (r : Control) (ps : List Packet) → 0 < d → 2 * d ≤ r.window → (fold (moved d) r (growths c ps)).window ≤ r.window + sum_by (λ p. p.size) ps
+grown_by c d r [] some low = omega arith
+grown_by c d r (p ∷ ps) some low =
+    let here = grown_little d r p.size (sent_mark c p) some low in
+    let least = grow_at_least d p.size r (is_outside_recovery r.recovery_start_time (sent_mark c p)) in
+    let rest = grown_by c d (moved d r (Grow p.size (sent_mark c p))) ps some (omega (arith, low, least)) in
     let sum : sum_by (λ (q : Packet). q.size) (p ∷ ps) ≡ p.size + sum_by (λ (q : Packet). q.size) ps = sum_by-cons (λ (q : Packet). q.size) p ps in
     omega (arith, here, rest, sum)
 
@@ -49,12 +49,12 @@ sizes_in_flight (p ∷ ps) =
     let sum : sum_by in_flight_size (p ∷ ps) ≡ in_flight_size p + sum_by in_flight_size ps = sum_by-cons in_flight_size p ps in
     omega (arith, here, rest, sum)
 
-grown_new : (d : ℕ) (r : Control) (app_limited : Bool) (new : List Packet) → 0 < d → 2 * d ≤ r.window
-    → (fold (moved d) r (if app_limited then [] else grows new)).window ≤ r.window + sum_by in_flight_size new
-grown_new d r true new some low = omega arith
-grown_new d r false new some low =
+grown_new : (c : Settings) (d : ℕ) (r : Control) (app_limited : Bool) (new : List Packet) → 0 < d → 2 * d ≤ r.window
+    → (fold (moved d) r (if app_limited then [] else grows c new)).window ≤ r.window + sum_by in_flight_size new
+grown_new c d r true new some low = omega arith
+grown_new c d r false new some low =
     let kept = filter (λ (p : Packet). p.in_flight) new in
-    let most = grown_by d r (reverse kept) some low in
+    let most = grown_by c d r (reverse kept) some low in
     let turned = sum_turned (λ p. p.size) kept in
     let sizes = sizes_in_flight new in
     omega (arith, most, turned, sizes)
@@ -66,15 +66,15 @@ hit_if : (d last_sent now : ℕ) (r : Control) (outside : Bool) → is_outside_r
 hit_if d last_sent now r true is low = rw is ((omega arith), (omega (arith, low)))
 hit_if d last_sent now r false is low = rw is (low, (omega arith))
 
-moved_by : (d now : ℕ) (r : Control) (lost : List Packet) (persistent app_limited : Bool) (new : List Packet) → 0 < d → 2 * d ≤ r.window
-    → (fold (moved d) r (congestion_events now lost ++ persistent_congestions persistent ++ (if app_limited then [] else grows new))).window ≤ (if persistent then 2 * d else r.window) + sum_by in_flight_size new
-moved_by d now r [] false app_limited new some low = grown_new d r app_limited new some low
-moved_by d now r [] true app_limited new some low = grown_new d (on_persistent_congestion d r) app_limited new some (omega arith)
-moved_by d now r (p ∷ lost) true app_limited new some low = grown_new d (on_persistent_congestion d (on_congestion_event d (latest_sent (p ∷ lost)) now r)) app_limited new some (omega arith)
-moved_by d now r (p ∷ lost) false app_limited new some low =
-    let s = on_congestion_event d (latest_sent (p ∷ lost)) now r in
-    let at = hit_if d (latest_sent (p ∷ lost)) now r (is_outside_recovery r.recovery_start_time (latest_sent (p ∷ lost))) refl low in
-    let most = grown_new d s app_limited new some at.0 in
+moved_by : (c : Settings) (d now : ℕ) (r : Control) (lost : List Packet) (persistent app_limited : Bool) (new : List Packet) → 0 < d → 2 * d ≤ r.window
+    → (fold (moved d) r (congestion_events c now lost ++ persistent_congestions persistent ++ (if app_limited then [] else grows c new))).window ≤ (if persistent then 2 * d else r.window) + sum_by in_flight_size new
+moved_by c d now r [] false app_limited new some low = grown_new c d r app_limited new some low
+moved_by c d now r [] true app_limited new some low = grown_new c d (on_persistent_congestion d r) app_limited new some (omega arith)
+moved_by c d now r (p ∷ lost) true app_limited new some low = grown_new c d (on_persistent_congestion d (on_congestion_event d (latest_sent c (p ∷ lost)) now r)) app_limited new some (omega arith)
+moved_by c d now r (p ∷ lost) false app_limited new some low =
+    let s = on_congestion_event d (latest_sent c (p ∷ lost)) now r in
+    let at = hit_if d (latest_sent c (p ∷ lost)) now r (is_outside_recovery r.recovery_start_time (latest_sent c (p ∷ lost))) refl low in
+    let most = grown_new c d s app_limited new some at.0 in
     let lower = at.1 in
     omega (arith, most, lower)
 
@@ -104,7 +104,7 @@ within c (e ∷ h) range =
     let d = c.max_datagram_size in
     let low = window_low c h range in
     let least = range.datagram_low in
-    let moves = moved_by d (last_time (detection_of (e ∷ h))) (reno c h) (declared c (e ∷ h)) (is_persistent c (e ∷ h)) (is_app_limited e) (newly_acknowledged (e ∷ h)) (omega (arith, least)) low in
+    let moves = moved_by c d (event_mark c (detection_of (e ∷ h))) (reno c h) (declared c (e ∷ h)) (is_persistent c (e ∷ h)) (is_app_limited e) (newly_acknowledged (e ∷ h)) (omega (arith, least)) low in
     let most : (reno c (e ∷ h)).window ≤ (if is_persistent c (e ∷ h) then 2 * d else (reno c h).window) + acknowledged_bytes (e ∷ h) =
     subst (λ (r : Control). r.window ≤ (if is_persistent c (e ∷ h) then 2 * d else (reno c h).window) + acknowledged_bytes (e ∷ h)) (sym (reno_after c e h)) moves in
     rw (since_collapse_after c e h)

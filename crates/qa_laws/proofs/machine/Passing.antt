@@ -41,10 +41,10 @@ passed_is asks late (p ∷ ps) =
 -- in a run what a detection finds is whatever is asked of among the packets that its walk passes
 pub owed_is_passed : (c : Settings) (e : Event) (h : List Event) → IsRun c (e ∷ h) → (s : Space) (now : ℕ) → detection c (e ∷ h) ≡ Some (s, now)
     → (front rest : List Packet) → reverse (packets h) ≡ front ++ rest → NoneFlies c h s front
-    → reverse (owed c (e ∷ h)) ≡ filter (is_asked (e ∷ h) s) (take_while (is_passed (e ∷ h) s (is_past_threshold c (sampled c (e ∷ h)) now (largest_acknowledged (e ∷ h) s))) rest)
+    → reverse (owed c (e ∷ h)) ≡ filter (is_asked (e ∷ h) s) (take_while (is_passed (e ∷ h) s (is_past_threshold c (sampled c (e ∷ h)) (e ∷ h) now (largest_acknowledged (e ∷ h) s))) rest)
 owed_is_passed c e h run s now at front rest parts none =
     owed_of_rest c e h (tolerated_run_of c (e ∷ h) run) s now at front rest parts none
-    ∙ passed_is (is_asked (e ∷ h) s) (is_past_threshold c (sampled c (e ∷ h)) now (largest_acknowledged (e ∷ h) s)) rest
+    ∙ passed_is (is_asked (e ∷ h) s) (is_past_threshold c (sampled c (e ∷ h)) (e ∷ h) now (largest_acknowledged (e ∷ h) s)) rest
 
 -- ---- the new front
 
@@ -64,17 +64,17 @@ passed_by true false is = cc
 passed_by false late is = refl
 
 flies_not : (c : Settings) (e : Event) (h : List Event) → IsRun c (e ∷ h) → (s : Space) (now : ℕ) → detection c (e ∷ h) ≡ Some (s, now) → (p : Packet) (of_space : Bool) → is_of s p ≡ of_space
-    → is_passed (e ∷ h) s (is_past_threshold c (sampled c (e ∷ h)) now (largest_acknowledged (e ∷ h) s)) p ≡ true → (of_space && is_flying c (e ∷ h) p) ≡ false
+    → is_passed (e ∷ h) s (is_past_threshold c (sampled c (e ∷ h)) (e ∷ h) now (largest_acknowledged (e ∷ h) s)) p ≡ true → (of_space && is_flying c (e ∷ h) p) ≡ false
 flies_not c e h run s now at p true of_s passed =
-    flies_after c e h (tolerated_run_of c (e ∷ h) run) s now at p of_s ∙ passed_by (is_asked (e ∷ h) s p) (is_past_threshold c (sampled c (e ∷ h)) now (largest_acknowledged (e ∷ h) s) p) passed
+    flies_after c e h (tolerated_run_of c (e ∷ h) run) s now at p of_s ∙ passed_by (is_asked (e ∷ h) s p) (is_past_threshold c (sampled c (e ∷ h)) (e ∷ h) now (largest_acknowledged (e ∷ h) s) p) passed
 flies_not c e h run s now at p false of_s passed = refl
 
 -- in a run none of the packets up to where the walk stops is open and in flight after the event
 pub none_flies_passed : (c : Settings) (e : Event) (h : List Event) → IsRun c (e ∷ h) → (s : Space) (now : ℕ) → detection c (e ∷ h) ≡ Some (s, now)
     → (front rest : List Packet) → reverse (packets h) ≡ front ++ rest → NoneFlies c h s front
-    → NoneFlies c (e ∷ h) s (front ++ take_while (is_passed (e ∷ h) s (is_past_threshold c (sampled c (e ∷ h)) now (largest_acknowledged (e ∷ h) s))) rest)
+    → NoneFlies c (e ∷ h) s (front ++ take_while (is_passed (e ∷ h) s (is_past_threshold c (sampled c (e ∷ h)) (e ∷ h) now (largest_acknowledged (e ∷ h) s))) rest)
 none_flies_passed c e h run s now at front rest parts none =
-    let test = is_passed (e ∷ h) s (is_past_threshold c (sampled c (e ∷ h)) now (largest_acknowledged (e ∷ h) s)) in
+    let test = is_passed (e ∷ h) s (is_past_threshold c (sampled c (e ∷ h)) (e ∷ h) now (largest_acknowledged (e ∷ h) s)) in
     each_append (λ p. (is_of s p && is_flying c (e ∷ h) p) ≡ false) front (take_while test rest)
     (none_flies_stays c e h run s front rest parts none)
     (of_each (λ p. (is_of s p && is_flying c (e ∷ h) p) ≡ false) (take_while test rest) (λ p has.

@@ -20,7 +20,7 @@ use Rattle.qa_base.specs.machine.Window.{other_window}
 use Rattle.qa_base.specs.values.Constants.{minimum_window}
 use Rattle.qa_base.specs.values.Events.{time_of, is_in_flight_by}
 use Rattle.qa_base.specs.values.Settings.{Settings, choosing_options, early, is_outside, is_reported, spares_unreported}
-use Rattle.qa_base.specs.values.Limits.{max_timer_late, max_report_slack_us, max_report_slack_bytes, min_packet_threshold, max_packet_threshold, max_timer_early_us}
+use Rattle.qa_base.specs.values.Limits.{max_timer_late, max_report_slack_us, max_report_slack_bytes, min_packet_threshold, max_packet_threshold, max_timer_early_us, min_time_threshold_eighths, max_time_threshold_eighths}
 use Rattle.qa_laws.specs.machine.Alike.{of_version}
 use Rattle.qa_laws.proofs.machine.Alike.{Agree, Tolerances, agree_if_equally_early, detects_if_equally_early, same_bytes, same_collapse, same_deadline, same_loss_not_owed, same_loss_owed, same_loss_set, same_nameable, same_not_set, same_other, same_owed, same_past_recovery, same_totals, same_window, tolerances_of, like}
 use Rattle.qa_laws.proofs.machine.Looser.{same_late}
@@ -121,7 +121,9 @@ chosen_is s d is =
     let slack_bytes = unless (is_outside 0 max_report_slack_bytes o.report_slack_bytes) (record { 0 = key.ReportSlackBytes }) _ d slack_us in
     let threshold = unless (is_outside min_packet_threshold max_packet_threshold o.packet_threshold) (record { 0 = key.PacketThreshold }) _ d slack_bytes in
     let early = unless (is_outside 0 max_timer_early_us o.timer_early_us) (record { 0 = key.TimerEarlyUs }) _ d threshold in
-    one_value (of_version s Three) d (unless (spares_unreported o) (record { 0 = key.LossByNumber }) _ d early)
+    let spared = unless (spares_unreported o) (record { 0 = key.LossByNumber }) _ d early in
+    one_value (of_version s Three) d
+    (unless (is_outside min_time_threshold_eighths max_time_threshold_eighths o.time_threshold_eighths) (record { 0 = key.TimeThresholdEighths }) _ d spared)
 
 pub chosen_asks_the_same : (s d : Settings) (h : List Event) (e : Event) → choosing_options s s.options ≡ Ok d → first_broken d h e ≡ first_broken s h e
 chosen_asks_the_same s d h e is = subst (λ (k : Settings). first_broken k h e ≡ first_broken s h e) (chosen_is s d is) (same_broken s Three h e)

@@ -15,7 +15,7 @@ use Rattle.qa_base.specs.machine.Detection.{all_at, is_found}
 use Rattle.qa_base.specs.machine.Loss.{owed, detection}
 use Rattle.qa_base.specs.history.Sequence.{EachTwo, WasSentBefore}
 use Rattle.qa_base.specs.machine.Packets.{Packet, packets, packets_of, is_of, is_acknowledged, is_declared_lost, is_newly_acknowledged, newly_acknowledged, greatest}
-use Rattle.qa_base.specs.machine.Reno.{latest_sent}
+use Rattle.qa_base.specs.machine.Reno.{latest_sent, sent_mark}
 use Rattle.qa_base.specs.machine.Rules.{IsRun}
 use Rattle.qa_base.specs.values.Settings.{Settings}
 use Rattle.qa_base.proofs.machine.RunLaws.{tolerated_run_of}
@@ -25,7 +25,8 @@ use Rattle.qa_base.proofs.history.Deadline.{find_none}
 use Rattle.qa_base.proofs.history.Forgotten.{none_of}
 use Rattle.qa_base.proofs.history.Pairs.{of_each, each_weaker, part_is, part_turned, two_of_part, two_turned, two_weaker}
 use Rattle.qa_base.proofs.history.Pairs.{two_of_rest}
-use Rattle.qa_base.specs.history.Latest.{first_if_numbered, is_first_at_or_above, time_of_first}
+use Rattle.qa_laws.specs.machine.Latest.{first_if_numbered, is_first_at_or_above}
+use Rattle.qa_laws.specs.machine.Conduct.{mark_of_first}
 
 -- ---- a named number is at most the greatest
 
@@ -81,14 +82,19 @@ above_is_latest c h run s n = above_first n (packets_of h s) (in_order_of c h s 
 
 -- ---- the last that was sent of some
 
-sent_by : (t : ℕ) (ps : List Packet) → AllByRecursion (λ q. q.time ≤ t) ps → latest_sent ps ≤ t
-sent_by t [] all = omega arith
-sent_by t (p ∷ ps) all = let rest = sent_by t ps all.1 in let here = all.0 in omega (arith, rest, here)
+sent_by : (c : Settings) (t : ℕ) (ps : List Packet) → AllByRecursion (λ q. sent_mark c q ≤ t) ps → latest_sent c ps ≤ t
+sent_by c t [] all = omega arith
+sent_by c t (p ∷ ps) all = let rest = sent_by c t ps all.1 in let here = all.0 in omega (arith, rest, here)
 
-latest_first : (ps : List Packet) → EachTwo IsEarlier ps → latest_sent ps ≡ time_of_first ps
-latest_first [] two = refl
-latest_first (p ∷ ps) two =
-    let rest = sent_by p.time ps (each_weaker (IsEarlier p) (λ q. q.time ≤ p.time) (λ q before. before.time) ps two.0) in
+-- what was sent earlier was sent no later, by order and by time
+no_later : (by_order : Bool) (p q : Packet) → IsEarlier p q → (if by_order then q.place else q.time) ≤ (if by_order then p.place else p.time)
+no_later true p q before = let sooner = before.place in omega (arith, sooner)
+no_later false p q before = before.time
+
+latest_first : (c : Settings) (ps : List Packet) → EachTwo IsEarlier ps → latest_sent c ps ≡ mark_of_first c ps
+latest_first c [] two = refl
+latest_first c (p ∷ ps) two =
+    let rest = sent_by c (sent_mark c p) ps (each_weaker (IsEarlier p) (λ q. sent_mark c q ≤ sent_mark c p) (λ q before. no_later c.options.recovery_by_order p q before) ps two.0) in
     omega (arith, rest)
 
 found_in_order : (c : Settings) (h : List Event) → IsRun c h → (d : Option (Space × ℕ)) → EachTwo IsEarlier (all_at (is_found c (sampled c h) h) h d)
@@ -96,8 +102,8 @@ found_in_order c h run None = tt
 found_in_order c h run (Some (s, now)) = two_of_part IsEarlier (is_found c (sampled c h) h now s) (packets_of h s) (in_order_of c h s (tolerated_run_of c h run))
 
 -- in a run a loss is as late as its latest packet, the first of them
-pub latest_owed : (c : Settings) (h : List Event) → IsRun c h → latest_sent (owed c h) ≡ time_of_first (owed c h)
-latest_owed c h run = latest_first (owed c h) (found_in_order c h run (detection c h))
+pub latest_owed : (c : Settings) (h : List Event) → IsRun c h → latest_sent c (owed c h) ≡ mark_of_first c (owed c h)
+latest_owed c h run = latest_first c (owed c h) (found_in_order c h run (detection c h))
 
 -- ---- numbers rise in the order of sending
 

@@ -1,7 +1,7 @@
 -- How many packets are still of use after one more event.
 use Rattle.qa_laws.proofs.machine.Bytes.{names_nothing}
 use Rattle.qa_base.specs.history.Declared.{is_named_free, named_free}
-use Rattle.std.proofs.Common.{◌≡◌, ◌∙◌, ◌≤◌, ◌+◌, ℕ, List, [], ◌∷◌, ◌++◌, length, Bool, true, false, ◌||◌, refl, sym, ap, arith, subst, reverse, Contains, append_assoc}
+use Rattle.std.proofs.Common.{◌≡◌, ◌∙◌, ◌≤◌, ◌+◌, List, [], ◌∷◌, ◌++◌, length, Bool, true, false, ◌||◌, refl, sym, ap, arith, subst, reverse, Contains, append_assoc}
 use Rattle.std.proofs.lemmas.Bool.{and_parts, or_left, or_from, or_parts, both_ways, false_from_ne_true}
 use Rattle.std.proofs.lemmas.List.{length-append}
 use Rattle.std.proofs.lemmas.List.Elements.{Contains-append_left, Contains-append_right}
@@ -10,8 +10,6 @@ use Rattle.std.specs.Prelude.{if◌then◌else◌}
 use Rattle.qa_base.specs.declared.event.Event.{Event}
 use Rattle.qa_base.specs.declared.event.SentPacket.{SentPacket}
 use Rattle.qa_base.specs.declared.event.Event.TheVariants.{Sent, Ack, Timer, Discard}
-use Rattle.qa_base.specs.declared.space.Permission.{Permission}
-use Rattle.qa_base.specs.declared.space.Space.{Space}
 use Rattle.qa_base.specs.machine.Kept.{is_kept, kept_count}
 use Rattle.qa_base.specs.machine.Loss.{is_open, is_owed, owed}
 use Rattle.qa_base.specs.machine.Packets.{Packet, packets, packet_of, is_some_packet, is_newly_acknowledged, packet_at}

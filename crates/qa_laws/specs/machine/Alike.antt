@@ -1,10 +1,14 @@
 -- Headers of which the same machine is asked: they differ by their version and by what they
 -- tolerate alone.
+use Rattle.qa_base.specs.declared.space.ThresholdCounts.{ThresholdCounts}
 use Rattle.qa_base.specs.machine.Loss.{free}
 use Rattle.qa_base.specs.declared.event.Event.{Event}
 use Rattle.qa_base.specs.declared.space.LossByNumber.TheVariants.{Must}
-use Rattle.std.specs.Prelude.{◌≡◌, ◌⊎◌, ℕ, ◌≤◌, true, Option, Some, None, List, [], ◌∷◌}
+use Rattle.std.specs.Prelude.{◌≡◌, ◌≢◌, ◌⊎◌, ℕ, ◌≤◌, Bool, true, Option, Some, None, List, [], ◌∷◌}
 use Rattle.qa_base.specs.declared.header.Version.{Version}
+use Rattle.qa_base.specs.machine.Packets.{Packet}
+use Rattle.qa_base.specs.machine.Reno.{reno}
+use Rattle.std.specs.List.{AllByRecursion}
 use Rattle.qa_base.specs.values.Settings.{Settings, is_may}
 
 -- the two headers say the same but for their version, the late and early timers, the window that
@@ -20,6 +24,11 @@ pub record AreAlike (c d : Settings) : Type 0 where
   pub controller : d.options.controller ≡ c.options.controller
   pub sample_eliciting_only : d.options.sample_eliciting_only ≡ c.options.sample_eliciting_only
   pub loss_by_number : d.options.loss_by_number ≡ c.options.loss_by_number
+  pub threshold_counts : d.options.threshold_counts ≡ c.options.threshold_counts
+  pub reset_rtt : d.options.reset_rtt ≡ c.options.reset_rtt
+  pub latest_rtt_less_delay : d.options.latest_rtt_less_delay ≡ c.options.latest_rtt_less_delay
+  pub time_threshold_eighths : d.options.time_threshold_eighths ≡ c.options.time_threshold_eighths
+  pub recovery_by_order : d.options.recovery_by_order ≡ c.options.recovery_by_order
 
 -- a limit that is no less, or no limit
 abbrev pub IsNoLess : Option ℕ → Option ℕ → Type 0
@@ -53,7 +62,30 @@ of_version c version = record c { version = version }
 abbrev pub where_they_must : Settings → Settings
 where_they_must c = record c { options = record c.options { loss_by_number = Must } }
 
+-- the header with a time threshold of so many eighths of the RTT, and all else as it is
+abbrev pub with_time_threshold : Settings → ℕ → Settings
+with_time_threshold c eighths =
+    record c { options = record c.options { time_threshold_eighths = eighths } }
+
+-- the header under which recovery is told by the order of the lines or by times, with all else as
+-- it is
+abbrev pub with_recovery_by_order : Settings → Bool → Settings
+with_recovery_by_order c by_order =
+    record c { options = record c.options { recovery_by_order = by_order } }
+
+-- the header under which the packet threshold counts so, with all else as it is
+abbrev pub counting : Settings → ThresholdCounts → Settings
+counting c counts = record c { options = record c.options { threshold_counts = counts } }
+
 -- nothing is free after the history, nor was after any before it
 abbrev pub NothingFree : Settings → List Event → Type 0
 NothingFree c [] = Unit {0}
 NothingFree c (e ∷ h) = NothingFree c h × (free c (e ∷ h) ≡ [])
+
+-- no packet of these has a time at which the history has recovery begin
+abbrev pub NoneAtStarts : Settings → List Packet → List Event → Type 0
+NoneAtStarts c ps [] = Unit {0}
+NoneAtStarts c ps (e ∷ h) =
+    NoneAtStarts c ps h
+    × ((began : ℕ) → (reno c (e ∷ h)).recovery_start_time ≡ Some began
+    → AllByRecursion (λ p. p.time ≢ began) ps)

@@ -11,20 +11,23 @@ use Rattle.qa_base.specs.declared.space.Permission.TheVariants.{Window, Probe, R
 use Rattle.qa_base.specs.declared.space.Space.{Space}
 use Rattle.qa_base.specs.values.Constants.{probe_datagrams}
 use Rattle.qa_base.specs.values.Events.{is_named, is_in_flight_by}
+use Rattle.qa_base.specs.machine.Detection.{distance_below}
 use Rattle.qa_base.specs.machine.Estimates.{sampled}
 use Rattle.qa_base.specs.machine.Loss.{declared, bytes_in_flight, is_persistent, detection}
-use Rattle.qa_base.specs.machine.Moments.{detection_of, last_time}
+use Rattle.qa_base.specs.machine.Moments.{detection_of}
 use Rattle.qa_base.specs.machine.Packets.{Packet, packets, is_acknowledged}
-use Rattle.qa_base.specs.machine.Reno.{is_entry, is_outside_recovery, latest_sent}
-use Rattle.qa_base.specs.values.Settings.{Settings, granularity}
+use Rattle.qa_base.specs.machine.Reno.{event_mark, is_entry, is_outside_recovery, latest_sent}
+use Rattle.qa_base.specs.machine.Reno.{sent_mark}
+use Rattle.qa_base.specs.values.Settings.{Settings}
 use Rattle.qa_base.specs.machine.Rtt.{loss_delay}
 use Rattle.qa_base.specs.machine.Window.{window}
 
 -- ---- losses (RFC 9002, section 6.1)
 
 -- an in-flight packet of the space has this number, and a packet of the space that was sent later
--- is acknowledged: its number is higher by the packet threshold at least (section 6.1.1), or the
--- loss delay had passed since the first was sent when it was looked for (section 6.1.2)
+-- is acknowledged: its number is higher by the packet threshold at least, or so many packets were
+-- sent with numbers up to it (section 6.1.1), or the loss delay had passed since the first was sent
+-- when it was looked for (section 6.1.2)
 pub record IsLostRightly (c : Settings) (h : List Event) (s : Space) (n : ℕ) : Type 0 where
   pub packet : Packet
   pub sent : Contains (packets h) packet
@@ -39,8 +42,9 @@ pub record IsLostRightly (c : Settings) (h : List Event) (s : Space) (n : ℕ) :
   pub lower : packet.number < other.number
   pub now : ℕ
   pub detected : detection c h ≡ Some (s, now)
-  pub late : (packet.number + c.options.packet_threshold ≤ other.number)
-      ⊎ (loss_delay (granularity c) (sampled c h) ≤ now - packet.time)
+  pub late : (c.options.packet_threshold
+      ≤ distance_below c.options.threshold_counts h packet.space packet.number other.number)
+      ⊎ (loss_delay c (sampled c h) ≤ now - packet.time)
 
 -- ---- probes (RFC 9002, section 6.2.4)
 
@@ -68,9 +72,14 @@ is_recovery _ = false
 
 -- packets that are lost enter recovery: the last of them was sent after recovery began, or there is
 -- no recovery
-abbrev pub is_entered_by : Option ℕ → List Packet → Bool
-is_entered_by recovery [] = false
-is_entered_by recovery (p ∷ ps) = is_outside_recovery recovery (latest_sent (p ∷ ps))
+abbrev pub is_entered_by : Settings → Option ℕ → List Packet → Bool
+is_entered_by c recovery [] = false
+is_entered_by c recovery (p ∷ ps) = is_outside_recovery recovery (latest_sent c (p ∷ ps))
+
+-- when the first of packets was sent, by which recovery is told
+abbrev pub mark_of_first : Settings → List Packet → ℕ
+mark_of_first c [] = 0
+mark_of_first c (p ∷ ps) = sent_mark c p
 
 -- some event of the history is the last of a moment that passes the test
 pub record HasMoment (test : List Event → Bool) (h : List Event) : Type 0 where
@@ -95,11 +104,11 @@ NoCollapse c events h =
     (later earlier : List Event) → events ≡ later ++ earlier
     → is_persistent c (earlier ++ h) ≡ false
 
--- a packet that is lost was sent after this time
-pub record IsSentAfter (time : ℕ) (lost : List Packet) : Type 0 where
+-- a packet that is lost was sent after the event of this mark
+pub record IsSentAfter (c : Settings) (mark : ℕ) (lost : List Packet) : Type 0 where
   pub packet : Packet
   pub found : Contains lost packet
-  pub after : time < packet.time
+  pub after : mark < sent_mark c packet
 
 -- ---- leave (RFC 9002, sections 6.2.4 and 7.3.2)
 
@@ -152,5 +161,5 @@ pub record IsSenderRule (c : Settings) (h : List Event) : Type 0 where
       → is_entry c (first ∷ before) ≡ true → is_entry c (second ∷ between ++ first ∷ before) ≡ true
       → detection_of (second ∷ between ++ first ∷ before) ≢ first ∷ before
       → NoCollapse c between (first ∷ before)
-      → IsSentAfter (last_time (detection_of (first ∷ before)))
+      → IsSentAfter c (event_mark c (detection_of (first ∷ before)))
       (declared c (second ∷ between ++ first ∷ before))

@@ -10,23 +10,25 @@ use Rattle.qa_base.specs.declared.space.TimerKind.TheVariants.{Loss, Pto}
 use Rattle.qa_base.specs.declared.space.Space.{Space}
 use Rattle.qa_base.specs.declared.space.Space.TheVariants.{App}
 use Rattle.qa_base.specs.machine.Breaches.{numbers}
+use Rattle.qa_base.specs.machine.Detection.{count_between}
 use Rattle.qa_base.specs.machine.Estimates.{rtt}
 use Rattle.qa_base.specs.machine.Kept.{numbers_of}
 use Rattle.qa_base.specs.machine.Permission.{probe_spent, recovery_spent}
 use Rattle.qa_base.specs.machine.Loss.{bytes_in_flight, detection, free, is_open, nameable, owed}
-use Rattle.qa_base.specs.machine.Packets.{Packet, greatest_of, packets_of}
+use Rattle.qa_base.specs.machine.Packets.{Packet, greatest_of, largest_acknowledged, packets_of}
 use Rattle.qa_base.specs.machine.Probes.{probe_due}
 use Rattle.qa_base.specs.machine.State.{totals}
 use Rattle.qa_base.specs.machine.Timer.{Due, deadline, last_eliciting, last_set, packet_deadline}
 use Rattle.qa_base.specs.machine.Timer.{pto_count, set_since, time_of_moment}
 use Rattle.qa_base.specs.machine.Window.{acknowledged_since_collapse, other_window, window}
 use Rattle.qa_base.specs.values.Constants.{minimum_window, probe_datagrams}
-use Rattle.qa_base.specs.values.Settings.{Settings, early, in_unit, is_may}
+use Rattle.qa_base.specs.values.Settings.{Settings, counts_packets, early, in_unit, is_may}
 use Rattle.qa_ledger.specs.declared.causes.cause.Basis.{Basis}
 use Rattle.qa_ledger.specs.declared.causes.cause.Basis.TheVariants as basis
 use Rattle.qa_ledger.specs.declared.causes.cause.Cause.{Cause}
 use Rattle.qa_ledger.specs.declared.causes.cause.Cause.TheVariants as cause
 use Rattle.qa_ledger.specs.declared.causes.cause.Comparison.{Comparison}
+use Rattle.qa_ledger.specs.declared.causes.cause.Counted.{Counted}
 use Rattle.qa_ledger.specs.declared.causes.cause.Free.{Free}
 use Rattle.qa_ledger.specs.declared.causes.cause.Oldest.{Oldest}
 use Rattle.qa_ledger.specs.declared.causes.cause.Owed.{Owed}
@@ -50,8 +52,40 @@ owed_numbers c h = reverse (numbers (owed c h))
 abbrev pub nameable_numbers : Settings → List Event → List ℕ
 nameable_numbers c h = reverse (numbers (nameable c h))
 
+-- ---- how far a number lies below the largest acknowledged one, by the packets that were sent
+
+-- where the packet threshold counts those
+abbrev pub counted : Settings → List Event → Space → ℕ → Option Counted
+counted c h s number =
+    if counts_packets c.options.threshold_counts then option_map (λ largest. record {
+      number = number;
+      largest = largest;
+      packets = count_between h s number largest;
+      threshold = c.options.packet_threshold;
+    }) (largest_acknowledged h s) else None
+
+-- of a number, if there is one
+abbrev pub counted_of : Settings → List Event → Option Space → Option ℕ → Option Counted
+counted_of c h None number = None
+counted_of c h (Some s) None = None
+counted_of c h (Some s) (Some number) = counted c h s number
+
+abbrev pub first_number : List ℕ → Option ℕ
+first_number [] = None
+first_number (n ∷ ns) = Some n
+
+-- the first number of the ranges
+abbrev pub first_of_ranges : List (ℕ × ℕ) → Option ℕ
+first_of_ranges [] = None
+first_of_ranges (range ∷ ranges) = Some range.0
+
+-- what is owed, and how far the first of it lies below
 abbrev pub owed_now : Settings → List Event → Owed
-owed_now c h = record { space = owed_space c h; numbers = runs_of (owed_numbers c h) }
+owed_now c h = record {
+  space = owed_space c h;
+  numbers = runs_of (owed_numbers c h);
+  counted = counted_of c h (owed_space c h) (first_number (owed_numbers c h));
+}
 
 -- ---- what is free
 
@@ -70,6 +104,10 @@ free_now c h =
     (record { space = searched c h; numbers = runs_of (free_numbers c h) }) else None
 
 -- ---- what a Lost line names
+
+abbrev pub lost_space : Event → Option Space
+lost_space (Lost time space ranges) = Some space
+lost_space _ = None
 
 abbrev pub lost_ranges : Event → List (ℕ × ℕ)
 lost_ranges (Lost time space ranges) = ranges
@@ -109,8 +147,8 @@ peer_delay c _ = 0
 
 abbrev pub packet_basis : Settings → List Event → Space → Option Basis
 packet_basis c h s =
-    option_map (λ p. basis.Packet p.number p.sent (rtt c h).latest_rtt (rtt c h).smoothed_rtt)
-    (oldest c h s)
+    option_map (λ p. basis.Packet p.number p.sent (rtt c h).latest_rtt (rtt c h).smoothed_rtt
+    c.options.time_threshold_eighths) (oldest c h s)
 
 abbrev pub eliciting_basis : Settings → List Event → Space → Option Basis
 eliciting_basis c h s =
@@ -157,11 +195,15 @@ comparison c = record {
 abbrev pub cause_of : Settings → List Event → Event → Rule → Cause
 cause_of c h e rule.TimeBack = cause.TimeBack (time_of_moment h)
 cause_of c h e rule.LossOwed = cause.LossOwed (owed_now c h)
-cause_of c h e rule.LossNotOwed = cause.LossNotOwed (owed_now c h) (free_now c h)
+cause_of c h e rule.LossNotOwed =
+    cause.LossNotOwed (owed_now c h) (free_now c h)
+    (counted_of c h (lost_space e) (first_of_ranges (lost_ranges e)))
 cause_of c h e rule.LossSet =
     cause.LossSet (owed_now c h) (free_now c h)
     (runs_of (unnamed (lost_ranges e) (owed_numbers c h)))
     (others (lost_ranges e) (nameable_numbers c h))
+    (counted_of c h (lost_space e)
+    (first_of_ranges (others (lost_ranges e) (nameable_numbers c h))))
 cause_of c h e rule.SpaceGone = cause.SpaceGone
 cause_of c h e rule.NumberNotHigher = cause.NumberNotHigher (greatest_before h e)
 cause_of c h e rule.PastWindow =

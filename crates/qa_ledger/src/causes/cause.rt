@@ -2,6 +2,20 @@
 use qa_base::{Controller, Due, PacketNumber, Space, Ticks, Totals};
 use qa_packet_numbers::Ranges;
 
+/// How far a packet lies below the largest acknowledged one, by the packets that were sent (RFC
+/// 9002, section 6.1.1). It is told where the header has the packet threshold count those.
+#[derive(Clone, Copy)]
+pub struct Counted {
+    /// The packet's number.
+    pub number: PacketNumber,
+    /// The largest acknowledged number of its space.
+    pub largest: PacketNumber,
+    /// How many packets of the space were sent with a number above it, up to that.
+    pub packets: u64,
+    /// The packet threshold.
+    pub threshold: u64,
+}
+
 /// The packets that are owed as lost (RFC 9002, section 6.1).
 #[derive(Drop)]
 pub struct Owed {
@@ -9,6 +23,8 @@ pub struct Owed {
     pub space: Option<Space>,
     /// Their numbers.
     pub numbers: Ranges,
+    /// How far the first of them lies below the largest acknowledged packet.
+    pub counted: Option<Counted>,
 }
 
 /// What the next Lost line may name beyond what is owed, where the header lets a sender spare such
@@ -45,8 +61,9 @@ pub struct Comparison {
 /// Why a deadline is what it is. Times are in the unit of the trace.
 #[derive(Clone, Copy)]
 pub enum Basis {
-    /// The loss delay behind the oldest packet of the space that is open and in flight: 9/8 of the
-    /// greater of the two RTTs, and at least `kGranularity` (RFC 9002, section 6.1.2).
+    /// The loss delay behind the oldest packet of the space that is open and in flight: the time
+    /// threshold of the greater of the two RTTs, and at least `kGranularity` (RFC 9002, section
+    /// 6.1.2).
     Packet {
         /// The packet's number.
         number: PacketNumber,
@@ -56,6 +73,8 @@ pub enum Basis {
         latest_rtt: u64,
         /// `smoothed_rtt`.
         smoothed_rtt: u64,
+        /// `kTimeThreshold` of the sender, in eighths of the RTT.
+        eighths: u64,
     },
     /// A probe timeout behind the last ack-eliciting packet of the space (section 6.2.1).
     Eliciting {
@@ -105,6 +124,8 @@ pub enum Cause {
         /// What is free, in another space or none; None where the header lets a sender spare
         /// nothing.
         free: Option<Free>,
+        /// How far the first number of the line lies below the largest acknowledged packet.
+        counted: Option<Counted>,
     },
     /// V4: the Lost line does not name all that is owed, or names what is neither owed nor free.
     LossSet {
@@ -116,6 +137,8 @@ pub enum Cause {
         unnamed: Ranges,
         /// The numbers that the line names and that are neither owed nor free.
         unowed: Ranges,
+        /// How far the least of these lies below the largest acknowledged packet.
+        counted: Option<Counted>,
     },
     /// V5: the keys of the space were discarded.
     SpaceGone,

@@ -22,6 +22,7 @@ fn packet_basis<S: Facts>(state: &S, space: Space) -> Option<Basis>
             sent: oldest.sent,
             latest_rtt: held.latest_rtt,
             smoothed_rtt: held.smoothed_rtt,
+            eighths: state.header().time_threshold_eighths(),
         }),
     }
 }

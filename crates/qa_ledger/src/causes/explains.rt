@@ -45,6 +45,12 @@ pub trait Explains: Ledger {
         ensures { Self.has_failed self.now ≡ false → (c : Settings) (h : List AnEvent)
             → Self.stands self.now c h → result ≡ timers.packet_deadline c h };
 
+    /// The timer that a client keeps until its address is validated (section 6.2.2.1), which is the
+    /// deadline where no packet sets it; None where it is validated.
+    fn anti_deadlock(&self) -> Option<Due>
+        ensures { Self.has_failed self.now ≡ false → (c : Settings) (h : List AnEvent)
+            → Self.stands self.now c h → result ≡ timers.anti_deadlock c h };
+
     /// The bytes that were newly acknowledged since persistent congestion (RFC 9002, section
     /// 7.6.2); None without it, or where another window was reported since.
     fn acknowledged_since_collapse(&self) -> Option<u64>

@@ -7,7 +7,7 @@ ghost use Rattle.qa_base.specs.values.Settings.{Settings};
 ghost use Rattle.qa_ledger.specs.causes.Causes as causes;
 
 use crate::State;
-use crate::causes::cause::Oldest;
+use crate::causes::cause::{Counted, Oldest};
 use qa_base::{Due, PacketNumber, Space, Span, Ticks};
 use std::alloc::AllocError;
 
@@ -43,6 +43,13 @@ pub trait Facts: State {
     fn owed_space(&self) -> Option<Space>
         ensures { (c : Settings) (h : List AnEvent) → Self.tells self.now c h
             → result ≡ causes.owed_space c h };
+
+    /// How far a number of the space lies below the largest acknowledged one, by the packets that
+    /// were sent; None where the packet threshold counts numbers, and where nothing of the space
+    /// was acknowledged.
+    fn counted(&self, space: Space, number: PacketNumber) -> Option<Counted>
+        ensures { (c : Settings) (h : List AnEvent) → Self.tells self.now c h
+            → result ≡ causes.counted c h space number };
 
     /// The greatest number that was sent in the space; None before any.
     fn greatest_sent(&self, space: Space) -> Option<PacketNumber>

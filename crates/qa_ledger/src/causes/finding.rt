@@ -9,7 +9,7 @@ ghost use Rattle.qa_base.specs.values.Settings.{Settings};
 ghost use Rattle.qa_ledger.specs.causes.Causes as causes;
 ghost use Rattle.qa_packet_numbers.specs.Missing as sets;
 
-use crate::causes::cause::{Cause, Comparison, Free, Owed};
+use crate::causes::cause::{Cause, Comparison, Counted, Free, Owed};
 use crate::causes::deadline::{timer_early, timer_late};
 use crate::causes::facts::Facts;
 use crate::other_window;
@@ -20,26 +20,71 @@ use std::alloc::{AllocError, Global};
 
 // ---- what is owed
 
+/// How far a number lies below the largest acknowledged packet of the space, if there is one.
+fn counted_of<S: Facts>(
+    state: &S,
+    space: Option<Space>,
+    number: Option<PacketNumber>,
+) -> Option<Counted>
+    ensures { (c : Settings) (h : List AnEvent) → S.tells state.now c h
+        → result ≡ causes.counted_of c h space number }
+{
+    match space {
+        None => None,
+        Some(space) => match number {
+            None => None,
+            Some(number) => state.counted(space, number),
+        },
+    }
+}
+
+/// The first of the numbers.
+fn first_number(numbers: &[PacketNumber]) -> Option<PacketNumber>
+    ensures { result ≡ causes.first_number numbers.now }
+{
+    match numbers {
+        [] => None,
+        [first, ..] => Some(*first),
+    }
+}
+
+/// The first number of the ranges.
+fn first_of_ranges(ranges: &[Span]) -> Option<PacketNumber>
+    ensures { result ≡ causes.first_of_ranges ranges.now }
+{
+    match ranges {
+        [] => None,
+        [first, ..] => Some(first.lo()),
+    }
+}
+
 /// What is owed after these events. `AllocError` comes where it is out of memory.
 pub fn owed_of<S: Facts>(alloc: Global, state: &S) -> Result<Owed, AllocError>
     ensures { IfOk result (λ owed. (c : Settings) (h : List AnEvent) → S.tells state.now c h
         → owed ≡ causes.owed_now c h) }
 {
     let numbers = state.owed_numbers()?;
-    owed_by(alloc, state.owed_space(), &numbers)
+    owed_by(alloc, state, &numbers)
 }
 
-/// What is owed, by its space and its numbers.
-fn owed_by(
-    alloc: Global,
-    space: Option<Space>,
-    numbers: &[PacketNumber],
-) -> Result<Owed, AllocError>
-    ensures { IfOk result (λ owed. owed
-        ≡ record { space = space; numbers = sets.runs_of numbers.now }) }
+/// What is owed, by its numbers.
+fn owed_by<S: Facts>(alloc: Global, state: &S, numbers: &[PacketNumber]) -> Result<Owed, AllocError>
+    ensures { IfOk result (λ owed. (c : Settings) (h : List AnEvent) → S.tells state.now c h
+        → owed ≡ record {
+          space = causes.owed_space c h;
+          numbers = sets.runs_of numbers.now;
+          counted = causes.counted_of c h (causes.owed_space c h)
+              (causes.first_number numbers.now);
+        }) }
 {
+    let space = state.owed_space();
+    let counted = counted_of(state, space, first_number(numbers));
     let numbers = Ranges::of_numbers(alloc, numbers)?;
-    Ok(Owed { space, numbers })
+    Ok(Owed {
+        space,
+        numbers,
+        counted,
+    })
 }
 
 /// What is free after these events; None where the header lets a sender spare nothing.
@@ -68,52 +113,61 @@ fn free_by(
     Ok(Some(Free { space, numbers }))
 }
 
-/// V3: what is owed and what is free, in other spaces than that of the Lost line.
-fn loss_not_owed<S: Facts>(alloc: Global, state: &S) -> Result<Cause, AllocError>
+/// V3: what is owed and what is free, in other spaces than that of the Lost line, and how far below
+/// the first number of that lies.
+fn loss_not_owed<S: Facts>(alloc: Global, state: &S, event: &Event) -> Result<Cause, AllocError>
     ensures { IfOk result (λ cause. (c : Settings) (h : List AnEvent) → S.tells state.now c h
-        → cause ≡ Cause.LossNotOwed (causes.owed_now c h) (causes.free_now c h)) }
+        → cause ≡ Cause.LossNotOwed (causes.owed_now c h) (causes.free_now c h)
+        (causes.counted_of c h (causes.lost_space event.now)
+        (causes.first_of_ranges (causes.lost_ranges event.now)))) }
 {
     let owed = owed_of(alloc, state)?;
     let free = free_of(alloc, state)?;
-    Ok(Cause::LossNotOwed { owed, free })
+    let first = first_of_ranges(lost_ranges(event));
+    let counted = counted_of(state, lost_space(event), first);
+    Ok(Cause::LossNotOwed {
+        owed,
+        free,
+        counted,
+    })
 }
 
 /// V4: what is owed and what is free, and how the ranges differ from what they may name.
-fn loss_set<S: Facts>(alloc: Global, state: &S, ranges: &[Span]) -> Result<Cause, AllocError>
+fn loss_set<S: Facts>(alloc: Global, state: &S, event: &Event) -> Result<Cause, AllocError>
     ensures { IfOk result (λ cause. (c : Settings) (h : List AnEvent) → S.tells state.now c h
         → cause ≡ Cause.LossSet (causes.owed_now c h) (causes.free_now c h)
-        (sets.runs_of (sets.unnamed ranges.now (causes.owed_numbers c h)))
-        (sets.others ranges.now (causes.nameable_numbers c h))) }
+        (sets.runs_of (sets.unnamed (causes.lost_ranges event.now) (causes.owed_numbers c h)))
+        (sets.others (causes.lost_ranges event.now) (causes.nameable_numbers c h))
+        (causes.counted_of c h (causes.lost_space event.now)
+        (causes.first_of_ranges
+        (sets.others (causes.lost_ranges event.now) (causes.nameable_numbers c h))))) }
 {
+    let ranges = lost_ranges(event);
     let numbers = state.owed_numbers()?;
     let nameable = state.nameable_numbers()?;
-    let owed = owed_by(alloc, state.owed_space(), &numbers)?;
+    let owed = owed_by(alloc, state, &numbers)?;
     let free = free_of(alloc, state)?;
-    differing(alloc, owed, free, &numbers, &nameable, ranges)
-}
-
-/// How the ranges differ from the numbers that are owed, all of which they have to name, and from
-/// those that they may name.
-fn differing(
-    alloc: Global,
-    owed: Owed,
-    free: Option<Free>,
-    numbers: &[PacketNumber],
-    nameable: &[PacketNumber],
-    ranges: &[Span],
-) -> Result<Cause, AllocError>
-    ensures { IfOk result (λ cause. cause
-        ≡ Cause.LossSet owed free (sets.runs_of (sets.unnamed ranges.now numbers.now))
-        (sets.others ranges.now nameable.now)) }
-{
-    let unnamed = Ranges::of_unnamed(alloc, ranges, numbers)?;
-    let unowed = Ranges::of_others(alloc, ranges, nameable)?;
+    let unnamed = Ranges::of_unnamed(alloc, ranges, &numbers)?;
+    let unowed = Ranges::of_others(alloc, ranges, &nameable)?;
+    let first = first_of_ranges(unowed.as_slice());
+    let counted = counted_of(state, lost_space(event), first);
     Ok(Cause::LossSet {
         owed,
         free,
         unnamed,
         unowed,
+        counted,
     })
+}
+
+/// The space of a Lost line; none of another event.
+fn lost_space(event: &Event) -> Option<Space>
+    ensures { result ≡ causes.lost_space event.now }
+{
+    match event {
+        Event::Lost { space, .. } => Some(*space),
+        _ => None,
+    }
 }
 
 /// The ranges that a Lost line names; none of another event.
@@ -220,8 +274,8 @@ pub fn cause_of<S: Facts>(
             let owed = owed_of(alloc, state)?;
             Ok(Cause::LossOwed { owed })
         }
-        Rule::LossNotOwed => loss_not_owed(alloc, state),
-        Rule::LossSet => loss_set(alloc, state, lost_ranges(event)),
+        Rule::LossNotOwed => loss_not_owed(alloc, state, event),
+        Rule::LossSet => loss_set(alloc, state, event),
         Rule::SpaceGone => Ok(Cause::SpaceGone),
         Rule::NumberNotHigher => Ok(Cause::NumberNotHigher {
             greatest: greatest_before(state, event),

@@ -1,5 +1,6 @@
 -- The deadline from what is kept is that of the history.
-use Rattle.std.proofs.Common.{◌≡◌, ◌≤◌, ◌+◌, ◌*◌, ◌^◌, ℕ, min, List, Bool, Option, Some, None, option_map, refl, ap, arith}
+use Rattle.std.proofs.Common.{◌≡◌, ◌≤◌, ◌+◌, ◌*◌, ◌^◌, ◌&&◌, ℕ, min, not, List, Bool, true, false, Option, Some, None, is_none, option_map, refl, sym, ap, ap₂, arith}
+use Rattle.qa_sent_packets.specs.declared.packet.SentPacket.{SentPacket}
 use Rattle.std.specs.List.{list_any}
 use Rattle.std.specs.Option.{option_or}
 use Rattle.std.specs.Prelude.{if◌then◌else◌}
@@ -33,8 +34,8 @@ use Rattle.qa_sent_packets.specs.declared.packet.SentPacket.{SentPacket}
 -- ---- losses
 
 loss_of : (c : Settings) (h : List Event) (s : Space) (header : Settings) (r : Estimate) (largest : Option ℕ) (oldest : Option SentPacket)
-    → header ≡ c → r ≡ rtt c h → largest ≡ largest_acknowledged h s → loss_due (granularity c) (rtt c h) (largest_acknowledged h s) s oldest ≡ timers.loss_due c h s
-    → loss_due (granularity header) r largest s oldest ≡ timers.loss_due c h s
+    → header ≡ c → r ≡ rtt c h → largest ≡ largest_acknowledged h s → loss_due c (rtt c h) (largest_acknowledged h s) s oldest ≡ timers.loss_due c h s
+    → loss_due header r largest s oldest ≡ timers.loss_due c h s
 loss_of c h s header r largest oldest is_header is_rtt is_largest is = rw (is_header, is_rtt, is_largest) is
 
 loss_is : (k : Connection) (told : PerSpace OpenInSpace) (c : Settings) (h : List Event) → IsOf k c h → AreOpen told c h → deadlines.earliest_loss k told ≡ earliest_loss c h
@@ -47,7 +48,7 @@ loss_is k told c h of open_packets =
 
 -- when the oldest packet of a space is old
 pub loss_time_is : (k : Connection) (told : OpenInSpace) (c : Settings) (h : List Event) (s : Space) → IsOf k c h → IsOpenIn told c h s
-    → option_map (λ (d : Due). d.time) (loss_due (granularity k.header) k.rtt (of_space s k.spaces).largest s told.oldest) ≡ option_map (λ (d : Due). d.time) (timers.loss_due c h s)
+    → option_map (λ (d : Due). d.time) (loss_due k.header k.rtt (of_space s k.spaces).largest s told.oldest) ≡ option_map (λ (d : Due). d.time) (timers.loss_due c h s)
 loss_time_is k told c h s of opened =
     ap (option_map (λ (d : Due). d.time)) (loss_of c h s k.header k.rtt (of_space s k.spaces).largest told.oldest of.parts.header of.parts.rtt (ap (λ (x : SpaceState). x.largest) (of.parts.spaces s)) opened.oldest)
 
@@ -111,8 +112,27 @@ or_turned : (a b d : Option Due) → option_or (option_or a b) d ≡ option_or a
 or_turned None b d = refl
 or_turned (Some due) b d = refl
 
--- what the timer is set for
-pub deadline_is : (k : Connection) (told : PerSpace OpenInSpace) (c : Settings) (h : List Event) → IsOf k c h → IsProperToleratedRun c h → AreOpen told c h → deadlines.deadline k told ≡ timers.deadline c h
-deadline_is k told c h of run open_packets =
-    let few = small_pto_count c h run.run run.timely in
-    rw (packet_deadline_is k told c h of run open_packets, anti_is k c h of few) (or_turned (earliest_loss c h) (earliest_pto c h) (anti_deadlock c h))
+-- what a client sets it for that is not validated
+pub anti_deadlock_is : (k : Connection) (c : Settings) (h : List Event) → IsOf k c h → IsProperToleratedRun c h → deadlines.anti_deadlock k ≡ timers.anti_deadlock c h
+anti_deadlock_is k c h of run = anti_is k c h of (small_pto_count c h run.run run.timely)
+
+-- what it is set for, by both
+pub deadline_is : (c : Settings) (h : List Event) (packets anti : Option Due) → packets ≡ timers.packet_deadline c h → anti ≡ timers.anti_deadlock c h → option_or packets anti ≡ timers.deadline c h
+deadline_is c h packets anti is_packets is_anti = rw (is_packets, is_anti) (or_turned (earliest_loss c h) (earliest_pto c h) (timers.anti_deadlock c h))
+
+-- ---- after the handshake
+
+abbrev none : OpenInSpace
+none = record { awaits = false; oldest = None }
+
+none_of : (awaits : Bool) (oldest : Option SentPacket) → (not awaits && is_none oldest) ≡ true → record { awaits = awaits; oldest = oldest } ≡ none
+none_of false None is = refl
+none_of false (Some p) is = cc
+none_of true oldest is = cc
+
+-- where the other spaces are idle, application data sets it
+pub by_app : (k : Connection) (told : PerSpace OpenInSpace) → deadlines.is_idle told.initial ≡ true → deadlines.is_idle told.handshake ≡ true → deadlines.app_deadline k told.app ≡ deadlines.packet_deadline k told
+by_app k told initial handshake =
+    let no_initial : told.initial ≡ none = none_of told.initial.awaits told.initial.oldest initial in
+    let no_handshake : told.handshake ≡ none = none_of told.handshake.awaits told.handshake.oldest handshake in
+    ap₂ (λ i h. deadlines.packet_deadline k (record { initial = i; handshake = h; app = told.app })) (sym no_initial) (sym no_handshake)

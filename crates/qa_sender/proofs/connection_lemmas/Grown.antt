@@ -9,9 +9,9 @@ use Rattle.std.specs.Prelude.{if◌then◌else◌, nat_le}
 use Rattle.qa_base.specs.declared.event.Event.{Event}
 use Rattle.qa_base.specs.declared.event.Event.TheVariants.{Sent}
 use Rattle.qa_base.specs.machine.Loss.{declared, is_persistent}
-use Rattle.qa_base.specs.machine.Moments.{detection_of, last_time}
+use Rattle.qa_base.specs.machine.Moments.{detection_of}
 use Rattle.qa_base.specs.machine.Packets.{Packet, packets, packet_of, is_newly_acknowledged, newly_acknowledged}
-use Rattle.qa_base.specs.machine.Reno.{Control, Move, Grow, persistent_congestions, grow, grows, congestion_events, is_app_limited, is_outside_recovery, moved, reno}
+use Rattle.qa_base.specs.machine.Reno.{Control, Move, Grow, persistent_congestions, grow, grows, congestion_events, event_mark, sent_mark, is_app_limited, is_outside_recovery, moved, reno}
 use Rattle.qa_base.specs.machine.Widths.{Fits}
 use Rattle.qa_base.specs.values.Settings.{Settings, AreInRange}
 use Rattle.qa_base.proofs.machine.Steps.{reno_after}
@@ -85,50 +85,51 @@ by_tests : (a b : Bool) (r s : Control) → b ≡ true → (if a && b then r els
 by_tests true b r s is = rw is refl
 by_tests false b r s is = refl
 
-abbrev growing : Packet → Move
-growing p = Grow p.size p.time
+abbrev growing : Settings → Packet → Move
+growing c p = Grow p.size (sent_mark c p)
 
 -- the window after a packet was acknowledged
-abbrev after : ℕ → Control → Packet → Control
-after d r p = if p.in_flight then moved d r (growing p) else r
+abbrev after : Settings → ℕ → Control → Packet → Control
+after c d r p = if p.in_flight then moved d r (growing c p) else r
 
 between_if : (d : ℕ) (here : Bool) (r s : Control) → r.window ≤ s.window → s.window ≤ r.window + 65527
     → (r.window ≤ (if here then s else r).window) × ((if here then s else r).window ≤ r.window + 65527)
 between_if d true r s low high = (low, high)
 between_if d false r s low high = ((omega arith), (omega arith))
 
-after_between : (d : ℕ) (r : Control) (p : Packet) → 0 < d → 2 * d ≤ r.window → p.size ≤ 65527 → (r.window ≤ (after d r p).window) × ((after d r p).window ≤ r.window + 65527)
-after_between d r p some low small =
-    let least : r.window ≤ (moved d r (growing p)).window = grow_at_least d p.size r (is_outside_recovery r.recovery_start_time p.time) in
-    let most = grown_little d r p.size p.time some low in
-    between_if d p.in_flight r (moved d r (growing p)) least (omega (arith, most, small))
+after_between : (c : Settings) (d : ℕ) (r : Control) (p : Packet) → 0 < d → 2 * d ≤ r.window → p.size ≤ 65527 → (r.window ≤ (after c d r p).window) × ((after c d r p).window ≤ r.window + 65527)
+after_between c d r p some low small =
+    let least : r.window ≤ (moved d r (growing c p)).window = grow_at_least d p.size r (is_outside_recovery r.recovery_start_time (sent_mark c p)) in
+    let most = grown_little d r p.size (sent_mark c p) some low in
+    between_if d p.in_flight r (moved d r (growing c p)) least (omega (arith, most, small))
 
-fold_if : (d : ℕ) (r : Control) (p : Packet) (ps : List Packet) (here : Bool)
-    → fold (moved d) (if here then moved d r (growing p) else r) (map growing (filter flies ps)) ≡ fold (moved d) r (map growing (if here then p ∷ filter flies ps else filter flies ps))
-fold_if d r p ps true = refl
-fold_if d r p ps false = refl
+fold_if : (c : Settings) (d : ℕ) (r : Control) (p : Packet) (ps : List Packet) (here : Bool)
+    → fold (moved d) (if here then moved d r (growing c p) else r) (map (growing c) (filter flies ps)) ≡ fold (moved d) r (map (growing c) (if here then p ∷ filter flies ps else filter flies ps))
+fold_if c d r p ps true = refl
+fold_if c d r p ps false = refl
 
 -- while there is room, each in-flight packet is a move
 grown_all : (c : Settings) (h : List Event) (d : ℕ) (ps : List Packet) (r : Control) → 0 < d → AllByRecursion IsSized ps → 2 * d ≤ r.window
     → r.window + 65527 * length ps ≤ 4611686018427387904
-    → fold (grown_by d) r (map (sent_of c h) ps) ≡ fold (moved d) r (map growing (filter flies ps))
-grown_all c h d [] r some all low room = refl
-grown_all c h d (p ∷ ps) r some all low room =
+    → d ≡ c.max_datagram_size → fold (grown_by c) r (map (sent_of c h) ps) ≡ fold (moved d) r (map (growing c) (filter flies ps))
+grown_all c h d [] r some all low room is_d = refl
+grown_all c h d (p ∷ ps) r some all low room is_d =
     let here = all.0 in
     let small = here.1 in
     let grows_then : can_grow r.window p.size ≡ true = can r.window p.size (omega (arith, low, some)) (omega (arith, room)) here.0 here.1 in
-    let one : grown_by d r (sent_of c h p) ≡ after d r p = by_tests p.in_flight (can_grow r.window p.size) (grow d p.size p.time r) r grows_then in
-    let both = after_between d r p some low small in
+    let one : grown_by c r (sent_of c h p) ≡ after c d r p =
+    by_tests p.in_flight (can_grow r.window p.size) (grow c.max_datagram_size p.size (sent_mark c p) r) r grows_then ∙ ap (λ n. if p.in_flight then grow n p.size (sent_mark c p) r else r) (sym is_d) in
+    let both = after_between c d r p some low small in
     let least = both.0 in
     let most = both.1 in
-    ap (λ (s : Control). fold (grown_by d) s (map (sent_of c h) ps)) one
-    ∙ (grown_all c h d ps (after d r p) some all.1 (omega (arith, low, least)) (omega (arith, most, room)) ∙ fold_if d r p ps p.in_flight)
+    ap (λ (s : Control). fold (grown_by c) s (map (sent_of c h) ps)) one
+    ∙ (grown_all c h d ps (after c d r p) some all.1 (omega (arith, low, least)) (omega (arith, most, room)) is_d ∙ fold_if c d r p ps p.in_flight)
 
 -- ---- losses first
 
-pub hits_is : (now : ℕ) (ps : List Packet) → congestion_events now ps ≡ hits_at now (last_sent ps)
-hits_is now [] = refl
-hits_is now (p ∷ ps) = refl
+pub hits_is : (c : Settings) (now : ℕ) (ps : List Packet) → congestion_events c now ps ≡ hits_at now (last_sent c ps)
+hits_is c now [] = refl
+hits_is c now (p ∷ ps) = refl
 
 -- two datagrams at least, and at most so many bytes
 abbrev IsBetween : ℕ → ℕ → Control → Type 0
@@ -153,45 +154,45 @@ three : (d : ℕ) (r : Control) (xs ys zs : List Move) → fold (moved d) r ((xs
 three d r xs ys zs = fold-append (moved d) r (xs ++ ys) zs ∙ ap (λ (x : Control). fold (moved d) x zs) (fold-append (moved d) r xs ys)
 
 growth_if : (c : Settings) (e : Event) (h : List Event) (d : ℕ) (r : Control) (app_limited : Bool)
-    → fold (grown_by d) r (acknowledged_by c e h) ≡ fold (moved d) r (grows (newly_acknowledged (e ∷ h)))
-    → fold (grown_by d) r (if app_limited then [] else acknowledged_by c e h) ≡ fold (moved d) r (if app_limited then [] else grows (newly_acknowledged (e ∷ h)))
+    → fold (grown_by c) r (acknowledged_by c e h) ≡ fold (moved d) r (grows c (newly_acknowledged (e ∷ h)))
+    → fold (grown_by c) r (if app_limited then [] else acknowledged_by c e h) ≡ fold (moved d) r (if app_limited then [] else grows c (newly_acknowledged (e ∷ h)))
 growth_if c e h d r true same = refl
 growth_if c e h d r false same = same
 
-grown_is : (c : Settings) (e : Event) (h : List Event) (d : ℕ) (r : Control) → 0 < d → AllByRecursion Fits h → length h < 2 ^ 32 → IsBetween d (2 ^ 60) r
-    → fold (grown_by d) r (acknowledged_by c e h) ≡ fold (moved d) r (grows (newly_acknowledged (e ∷ h)))
-grown_is c e h d r some fit few is =
+grown_is : (c : Settings) (e : Event) (h : List Event) (d : ℕ) (r : Control) → d ≡ c.max_datagram_size → 0 < d → AllByRecursion Fits h → length h < 2 ^ 32 → IsBetween d (2 ^ 60) r
+    → fold (grown_by c) r (acknowledged_by c e h) ≡ fold (moved d) r (grows c (newly_acknowledged (e ∷ h)))
+grown_is c e h d r is_d some fit few is =
     let new = newly_acknowledged (e ∷ h) in
     let high = is.1 in
     let fewer = newly_few e h in
     let many = length-reverse new in
     let all = sized_turned new (each_of_part IsSized (is_newly_acknowledged e h) (packets h) (sized h fit)) in
-    grown_all c h d (reverse new) r some all is.0 (omega (arith, high, fewer, many, few))
-    ∙ ap (λ (ps : List Packet). fold (moved d) r (map growing ps)) (part_turned new)
+    grown_all c h d (reverse new) r some all is.0 (omega (arith, high, fewer, many, few)) is_d
+    ∙ ap (λ (ps : List Packet). fold (moved d) r (map (growing c) ps)) (part_turned new)
 
 -- the window after an event, from what it newly acknowledges and what is lost by it
 pub reno_is : (c : Settings) (e : Event) (h : List Event) → AreInRange c → AllByRecursion Fits h → length h < 2 ^ 32
-    → steps.reno_after c.max_datagram_size (reno c h) (last_time (detection_of (e ∷ h))) e (acknowledged_by c e h) (last_sent (declared c (e ∷ h))) (is_persistent c (e ∷ h)) ≡ reno c (e ∷ h)
+    → steps.reno_after c (reno c h) (event_mark c (detection_of (e ∷ h))) e (acknowledged_by c e h) (last_sent c (declared c (e ∷ h))) (is_persistent c (e ∷ h)) ≡ reno c (e ∷ h)
 reno_is c e h range fit few =
     let d = c.max_datagram_size in
     let datagram_low = range.datagram_low in
-    let now = last_time (detection_of (e ∷ h)) in
-    let last = last_sent (declared c (e ∷ h)) in
+    let now = event_mark c (detection_of (e ∷ h)) in
+    let last = last_sent c (declared c (e ∷ h)) in
     let b = is_persistent c (e ∷ h) in
     let on_congestion_event : Control = fold (moved d) (reno c h) (hits_at now last) in
     let collapsed : Control = fold (moved d) on_congestion_event (persistent_congestions b) in
     let bound = window_bound c h range fit few in
     let between : IsBetween d (2 ^ 60) collapsed = collapse_between d (2 ^ 60) on_congestion_event b (hit_between d (2 ^ 60) now (reno c h) last bound) in
     let ys = persistent_congestions b in
-    let zs : List Move = if is_app_limited e then [] else grows (newly_acknowledged (e ∷ h)) in
-    growth_if c e h d collapsed (is_app_limited e) (grown_is c e h d collapsed (omega (arith, datagram_low)) fit few between)
-    ∙ (ap (λ (xs : List Move). fold (moved d) (fold (moved d) (fold (moved d) (reno c h) xs) ys) zs) (sym (hits_is now (declared c (e ∷ h))))
-    ∙ (sym (three d (reno c h) (congestion_events now (declared c (e ∷ h))) ys zs) ∙ sym (reno_after c e h)))
+    let zs : List Move = if is_app_limited e then [] else grows c (newly_acknowledged (e ∷ h)) in
+    growth_if c e h d collapsed (is_app_limited e) (grown_is c e h d collapsed refl (omega (arith, datagram_low)) fit few between)
+    ∙ (ap (λ (xs : List Move). fold (moved d) (fold (moved d) (fold (moved d) (reno c h) xs) ys) zs) (sym (hits_is c now (declared c (e ∷ h))))
+    ∙ (sym (three d (reno c h) (congestion_events c now (declared c (e ∷ h))) ys zs) ∙ sym (reno_after c e h)))
 
 -- .. from what is told of it
 pub reno_of : (c : Settings) (e : Event) (h : List Event) (header : Settings) (before : Control) (now : ℕ) (acknowledged : List SentPacket) (last : Option ℕ) (persistent : Bool)
-    → header ≡ c → before ≡ reno c h → now ≡ last_time (detection_of (e ∷ h)) → acknowledged ≡ acknowledged_by c e h → last ≡ last_sent (declared c (e ∷ h)) → persistent ≡ is_persistent c (e ∷ h)
+    → header ≡ c → before ≡ reno c h → now ≡ event_mark c (detection_of (e ∷ h)) → acknowledged ≡ acknowledged_by c e h → last ≡ last_sent c (declared c (e ∷ h)) → persistent ≡ is_persistent c (e ∷ h)
     → AreInRange c → AllByRecursion Fits h → length h < 2 ^ 32
-    → steps.reno_after header.max_datagram_size before now e acknowledged last persistent ≡ reno c (e ∷ h)
+    → steps.reno_after header before now e acknowledged last persistent ≡ reno c (e ∷ h)
 reno_of c e h header before now acknowledged last persistent is_header is is_now are is_last is_persistent_then range fit few =
     rw (is_header, is, is_now, are, is_last, is_persistent_then) (reno_is c e h range fit few)

@@ -10,18 +10,18 @@ use Rattle.qa_base.specs.declared.space.TimerKind.TheVariants.{Loss, Pto}
 use Rattle.qa_base.specs.declared.space.Permission.{Permission}
 use Rattle.qa_base.specs.declared.space.Space.{Space}
 use Rattle.qa_base.specs.machine.Detection.{are_ends}
-use Rattle.qa_base.specs.machine.Estimates.{rtt, sampled}
+use Rattle.qa_base.specs.machine.Estimates.{sampled}
 use Rattle.qa_base.specs.machine.Handshake.{is_validated}
 use Rattle.qa_base.specs.machine.Permission.{answers_pto, is_recovery_packet, probe_size}
 use Rattle.qa_base.specs.machine.Loss.{declared, is_persistent, owed}
-use Rattle.qa_base.specs.machine.Moments.{before_last, detection_of, last_time}
+use Rattle.qa_base.specs.machine.Moments.{before_last, detection_of}
 use Rattle.qa_base.specs.machine.Packets.{Packet, acknowledges_new, greatest, is_some_packet, newly_acknowledged, packets}
-use Rattle.qa_base.specs.machine.Reno.{Control, persistent_congestions, grows, congestion_events, is_app_limited, moved, reno}
+use Rattle.qa_base.specs.machine.Reno.{Control, persistent_congestions, grows, congestion_events, event_mark, is_app_limited, moved, reno}
 use Rattle.qa_base.specs.machine.Timer.{sets_timer}
 use Rattle.qa_base.specs.machine.Window.{acknowledged_bytes}
 use Rattle.qa_base.specs.values.Events.{is_quiet, time_of}
 use Rattle.qa_base.specs.values.Settings.{AreInRange, Settings}
-use Rattle.qa_base.proofs.machine.Quiet.{is_pto-quiet, newly-quiet, none_passes, not_refreshed, resets_count-quiet, rtt-quiet}
+use Rattle.qa_base.proofs.machine.Quiet.{is_pto-quiet, newly-quiet, none_passes, resets_count-quiet, rtt-quiet, rtt_stays}
 use Rattle.qa_base.proofs.machine.Steps.{reno_after}
 use Rattle.qa_sender.specs.Following.{as_sent}
 use Rattle.qa_sender.specs.connection.Changes.{acknowledged, completed, counted, discarded, grown, probing, reported, restarted, sent, with_persistent_congestion, with_congestion_event, with_sample}
@@ -90,12 +90,9 @@ reno_stays : (c : Settings) (e : Event) (h : List Event) → declared c (e ∷ h
 reno_stays c e h free none =
     let d = c.max_datagram_size in
     reno_after c e h
-    ∙ (ap (λ ps. fold (moved d) (reno c h) ((congestion_events (last_time (detection_of (e ∷ h))) ps ++ persistent_congestions (is_persistent c (e ∷ h))) ++ (if is_app_limited e then [] else grows (newly_acknowledged (e ∷ h))))) free
-    ∙ (ap (λ b. fold (moved d) (reno c h) (([] ++ persistent_congestions b) ++ (if is_app_limited e then [] else grows (newly_acknowledged (e ∷ h))))) (not_persistent c (e ∷ h) free)
-    ∙ (ap (λ ps. fold (moved d) (reno c h) (if is_app_limited e then [] else grows ps)) none ∙ no_move d (is_app_limited e) (reno c h))))
-
-rtt_stays : (c : Settings) (e : Event) (h : List Event) → declared c (e ∷ h) ≡ [] → rtt c (e ∷ h) ≡ sampled c (e ∷ h)
-rtt_stays c e h free = not_refreshed c.options.refresh_min_rtt c (e ∷ h) (sampled c (e ∷ h)) (not_persistent c (e ∷ h) free)
+    ∙ (ap (λ ps. fold (moved d) (reno c h) ((congestion_events c (event_mark c (detection_of (e ∷ h))) ps ++ persistent_congestions (is_persistent c (e ∷ h))) ++ (if is_app_limited e then [] else grows c (newly_acknowledged (e ∷ h))))) free
+    ∙ (ap (λ b. fold (moved d) (reno c h) (([] ++ persistent_congestions b) ++ (if is_app_limited e then [] else grows c (newly_acknowledged (e ∷ h))))) (not_persistent c (e ∷ h) free)
+    ∙ (ap (λ ps. fold (moved d) (reno c h) (if is_app_limited e then [] else grows c ps)) none ∙ no_move d (is_app_limited e) (reno c h))))
 
 none_of : (ps : List Packet) → is_some_packet ps ≡ false → ps ≡ []
 none_of [] none = refl
@@ -121,22 +118,23 @@ pub acked_is : (c : Settings) (h : List Event) (ack : Acknowledgment) (old cover
     → (largest : ℕ) → largest ≡ greatest ack.ranges → covers ≡ acknowledged ack.space largest old
     → (ps : List SentPacket) → ps ≡ acknowledged_by c (Ack ack) h → acknowledges_new (Ack ack ∷ h) ≡ true
     → samples ≡ with_sample ack.time ack.delay largest ps covers
-    → loses ≡ with_persistent_congestion (is_persistent c (Ack ack ∷ h)) (with_congestion_event ack.time (last_sent (owed c (Ack ack ∷ h))) samples)
+    → (mark : ℕ) → mark ≡ event_mark c (Ack ack ∷ h)
+    → loses ≡ with_persistent_congestion (is_persistent c (Ack ack ∷ h)) (with_congestion_event mark (last_sent c (owed c (Ack ack ∷ h))) samples)
     → grows ≡ grown ack.app_limited ps loses → new ≡ restarted ack.time grows → HasParts new c (Ack ack ∷ h)
-acked_is c h ack old covers samples loses grows new of run range largest is_largest is_acknowledged ps are some is_sampled is_declared_lost is_grown is_new =
+acked_is c h ack old covers samples loses grows new of run range largest is_largest is_acknowledged ps are some is_sampled mark is_mark is_declared_lost is_grown is_new =
     let e = Ack ack in
     let measured = acked_measured c h ack old covers samples of largest is_largest is_acknowledged ps are is_sampled in
     let long = run.few in
     let shakes : acknowledged_in ack.space old.handshake ≡ handshake_after (e ∷ h) = ap (acknowledged_in ack.space) of.handshake in
     let valid = validated_is old.header c (acknowledged_in ack.space old.handshake) (e ∷ h) of.header shakes in
     let resets = valid ∙ sym (ap (λ b. b && is_validated c (e ∷ h)) some) in
-    let entered = entry_of c e h old.reno (last_sent (owed c (e ∷ h))) of.reno refl in
+    let entered = entry_of c e h old.reno (last_sent c (owed c (e ∷ h))) of.reno refl in
     let samples_rtt : samples.rtt ≡ sampled c (e ∷ h) = measured.rtt in
     rw (is_new, is_grown, is_declared_lost) (record {
       header = measured.header;
       handshake = rw (is_sampled, is_acknowledged) shakes;
       rtt = rtt_of c e h samples.header (is_persistent c (e ∷ h)) samples.rtt measured.header refl measured.rtt;
-      reno = rw (is_sampled, is_acknowledged) (reno_of c e h old.header old.reno ack.time ps (last_sent (owed c (e ∷ h))) (is_persistent c (e ∷ h)) of.header of.reno refl are refl refl range run.fit.1 (omega (arith, long)));
+      reno = rw (is_sampled, is_acknowledged) (reno_of c e h old.header old.reno mark ps (last_sent c (owed c (e ∷ h))) (is_persistent c (e ∷ h)) of.header of.reno is_mark are refl refl range run.fit.1 (omega (arith, long)));
       reported = rw (is_sampled, is_acknowledged) (ap (λ (r : ReportedWindow). acknowledging ps (collapsed_with 0 (is_persistent c (e ∷ h)) r)) of.reported ∙ reported_acked c h ack ps are run.fit.1 (omega (arith, long)));
       timer = rw (is_sampled, is_acknowledged) (ap (timers.restarted ack.time _) of.timer ∙ timer_restarted c e h _ refl resets some (λ s. some));
       allowances = rw (is_sampled, is_acknowledged) (ap (λ b. on_congestion_event b old.allowances) entered ∙ (ap (on_congestion_event _) of.allowances ∙ sym (allowances_stay c e h refl refl)));
@@ -211,17 +209,18 @@ timed_measured c h time space k of = record { header = of.header; rtt = of.rtt; 
 
 -- a loss timer
 pub timed_is : (c : Settings) (h : List Event) (time : ℕ) (space : Space) (k : Connection) → HasParts k c h → IsProperToleratedRun c (Timer time Loss space ∷ h) → AreInRange c
-    → HasParts (with_persistent_congestion (is_persistent c (Timer time Loss space ∷ h)) (with_congestion_event time (last_sent (owed c (Timer time Loss space ∷ h))) (record k { timer = record k.timer { last_set = Some time } }))) c (Timer time Loss space ∷ h)
-timed_is c h time space k of run range =
+    → (mark : ℕ) → mark ≡ event_mark c (Timer time Loss space ∷ h)
+    → HasParts (with_persistent_congestion (is_persistent c (Timer time Loss space ∷ h)) (with_congestion_event mark (last_sent c (owed c (Timer time Loss space ∷ h))) (record k { timer = record k.timer { last_set = Some time } }))) c (Timer time Loss space ∷ h)
+timed_is c h time space k of run range mark is_mark =
     let e = Timer time Loss space in
     let long = run.few in
-    let last = last_sent (owed c (e ∷ h)) in
+    let last = last_sent c (owed c (e ∷ h)) in
     let are : [] ≡ acknowledged_by c e h = sym (ap (λ ps. map (sent_of c h) (reverse ps)) (none_passes (packets h))) in
     record {
       header = of.header;
       handshake = of.handshake;
       rtt = rtt_of c e h k.header (is_persistent c (e ∷ h)) k.rtt of.header refl of.rtt;
-      reno = reno_of c e h k.header k.reno time [] last (is_persistent c (e ∷ h)) of.header of.reno refl are refl refl range run.fit.1 (omega (arith, long));
+      reno = reno_of c e h k.header k.reno mark [] last (is_persistent c (e ∷ h)) of.header of.reno is_mark are refl refl range run.fit.1 (omega (arith, long));
       reported = ap (collapsed_with 0 (is_persistent c (e ∷ h))) of.reported ∙ reported_found c e h 0 (sym (no_bytes e h (none_passes (packets h)))) refl (none_passes (packets h));
       timer = ap (λ (t : TimerState). record t { last_set = Some time }) of.timer ∙ timer_fired c h time space;
       allowances = ap (λ b. on_congestion_event b k.allowances) (entry_of c e h k.reno last of.reno refl) ∙ (ap (on_congestion_event _) of.allowances ∙ sym (allowances_stay c e h refl refl));
@@ -273,19 +272,19 @@ lost_is c h time space ranges k free of =
 
 -- a Lost line that completes the detection in front of it
 pub completed_is : (c : Settings) (h : List Event) (time : ℕ) (space : Space) (ranges : List (ℕ × ℕ)) (k : Connection) (d : Detection) → HasParts k c h → IsProperToleratedRun c (Lost time space ranges ∷ h) → AreInRange c
-    → d.time ≡ last_time h → d.before ≡ reno c (before_last h) → d.acknowledged ≡ acknowledged_bytes h
-    → HasParts (completed d (last_sent (declared c (Lost time space ranges ∷ h))) (is_persistent c (Lost time space ranges ∷ h)) k) c (Lost time space ranges ∷ h)
+    → d.mark ≡ event_mark c h → d.before ≡ reno c (before_last h) → d.acknowledged ≡ acknowledged_bytes h
+    → HasParts (completed d (last_sent c (declared c (Lost time space ranges ∷ h))) (is_persistent c (Lost time space ranges ∷ h)) k) c (Lost time space ranges ∷ h)
 completed_is c h time space ranges k d of run range is_time is_before is_acknowledged =
     let e = Lost time space ranges in
     let long = run.few in
-    let last = last_sent (declared c (e ∷ h)) in
+    let last = last_sent c (declared c (e ∷ h)) in
     let are : [] ≡ acknowledged_by c e h = sym (ap (λ ps. map (sent_of c h) (reverse ps)) (none_passes (packets h))) in
     let none : acknowledges_new (e ∷ h) ≡ false = ap is_some_packet (none_passes (packets h)) in
     record {
       header = of.header;
       handshake = of.handshake;
       rtt = rtt_of c e h k.header (is_persistent c (e ∷ h)) k.rtt of.header refl of.rtt;
-      reno = reno_of c e h k.header k.reno d.time [] last (is_persistent c (e ∷ h)) of.header of.reno is_time are refl refl range run.fit.1 (omega (arith, long));
+      reno = reno_of c e h k.header k.reno d.mark [] last (is_persistent c (e ∷ h)) of.header of.reno is_time are refl refl range run.fit.1 (omega (arith, long));
       reported = ap (collapsed_with d.acknowledged (is_persistent c (e ∷ h))) of.reported ∙ reported_found c e h d.acknowledged is_acknowledged refl (none_passes (packets h));
       timer = of.timer ∙ sym (timer_stays c e h refl (resets_count-quiet c e h refl) none (λ s. none));
       allowances = ap (λ b. on_congestion_event b k.allowances) (entry_of c e h d.before last is_before refl) ∙ (ap (on_congestion_event _) of.allowances ∙ sym (allowances_stay c e h refl refl));

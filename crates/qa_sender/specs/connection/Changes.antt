@@ -1,9 +1,11 @@
 -- What changes of a connection, step by step.
-use Rattle.std.specs.Prelude.{ℕ, ◌+◌, fold, Bool, true, List, [], Option, Some, if◌then◌else◌}
+use Rattle.std.specs.Prelude.{ℕ, ◌+◌, fold, min, Bool, true, List, [], Option, Some}
+use Rattle.std.specs.Prelude.{if◌then◌else◌}
 use Rattle.qa_base.specs.declared.space.Permission.{Permission}
 use Rattle.qa_base.specs.declared.space.Space.{Space}
 use Rattle.qa_base.specs.machine.Reno.{Control, persistent_congestions, moved}
-use Rattle.qa_base.specs.machine.Rtt.{updated}
+use Rattle.qa_base.specs.machine.Rtt.{after_congestion, updated}
+use Rattle.qa_base.specs.values.Limits.{max_lines}
 use Rattle.qa_sender.specs.connection.Handshaking.{acknowledged_in, discarded_in, is_validated}
 use Rattle.qa_sender.specs.connection.Handshaking.{sent_in}
 use Rattle.qa_sender.specs.connection.Reporting.{acknowledging, collapsed_with, reporting}
@@ -11,12 +13,17 @@ use Rattle.qa_sender.specs.connection.Spaces.{changed_in, with_discarded, with_e
 use Rattle.qa_sender.specs.connection.Spaces.{with_largest}
 use Rattle.qa_sender.specs.connection.Spending.{on_congestion_event, spent}
 use Rattle.qa_sender.specs.connection.Steps.{capped, enters_at, grown_by, hits_at, limited_delay}
-use Rattle.qa_sender.specs.connection.Steps.{refreshed_if, sample_by}
+use Rattle.qa_sender.specs.connection.Steps.{sample_by}
 use Rattle.qa_sender.specs.connection.Timing.{answered_in}
 use Rattle.qa_sender.specs.connection.Timing as timers
 use Rattle.qa_sender.specs.declared.connection.connection.Connection.{Connection}
 use Rattle.qa_sender.specs.declared.connection.detection.Detection.{Detection}
 use Rattle.qa_sent_packets.specs.declared.packet.SentPacket.{SentPacket}
+
+-- when an event happens at a time, by which recovery is told: then, or at the place of its line
+-- where the order of the lines decides (RFC 9002, section 7.3.2)
+abbrev pub marked : Connection → ℕ → ℕ
+marked k time = if k.header.options.recovery_by_order then min k.events max_lines else time
 
 -- ---- an acknowledgment
 
@@ -32,7 +39,8 @@ acknowledged space largest k = record k {
 abbrev pub with_sample : ℕ → ℕ → ℕ → List SentPacket → Connection → Connection
 with_sample now delay largest ps k = record k {
   rtt =
-      updated k.rtt (sample_by k.header.options.sample_eliciting_only now
+      updated k.header.options.latest_rtt_less_delay k.rtt
+      (sample_by k.header.options.sample_eliciting_only now
       (limited_delay k.header.max_ack_delay k.handshake.confirmed delay) largest ps);
 }
 
@@ -51,7 +59,7 @@ with_congestion_event now last k = with_hit_since k.reno now last k
 -- they establish persistent congestion, or not, and the detection newly acknowledged so many bytes
 abbrev pub with_collapse_of : ℕ → Bool → Connection → Connection
 with_collapse_of bytes persistent k = record k {
-  rtt = refreshed_if k.header.options.refresh_min_rtt persistent k.rtt;
+  rtt = after_congestion k.header persistent k.rtt;
   reno = fold (moved k.header.max_datagram_size) k.reno (persistent_congestions persistent);
   reported = collapsed_with bytes persistent k.reported;
 }
@@ -63,12 +71,12 @@ with_persistent_congestion persistent k = with_collapse_of 0 persistent k
 -- a Lost line completes the detection: by it these are lost, the last of them sent at a time
 abbrev pub completed : Detection → Option ℕ → Bool → Connection → Connection
 completed d last persistent k =
-    with_collapse_of d.acknowledged persistent (with_hit_since d.before d.time last k)
+    with_collapse_of d.acknowledged persistent (with_hit_since d.before d.mark last k)
 
 -- these packets were acknowledged, by a sender that was limited or not
 abbrev pub grown : Bool → List SentPacket → Connection → Connection
 grown app_limited ps k = record k {
-  reno = fold (grown_by k.header.max_datagram_size) k.reno (if app_limited then [] else ps);
+  reno = fold (grown_by k.header) k.reno (if app_limited then [] else ps);
   reported = acknowledging ps k.reported;
 }
 

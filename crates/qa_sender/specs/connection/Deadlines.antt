@@ -24,17 +24,17 @@ use Rattle.qa_sent_packets.specs.declared.packet.SentPacket.{SentPacket}
 
 -- when the oldest packet of a space is old, where it is below the largest acknowledged number (RFC
 -- 9002, section 6.1.2)
-abbrev pub loss_due : ℕ → Estimate → Option ℕ → Space → Option SentPacket → Option Due
-loss_due g r largest s None = None
-loss_due g r largest s (Some p) =
+abbrev pub loss_due : Settings → Estimate → Option ℕ → Space → Option SentPacket → Option Due
+loss_due c r largest s None = None
+loss_due c r largest s (Some p) =
     if is_below_largest p.number largest then Some
-    (record { kind = Loss; space = s; time = p.time + loss_delay g r }) else None
+    (record { kind = Loss; space = s; time = p.time + loss_delay c r }) else None
 
 -- it is told whether an open packet of the space asks for an acknowledgment, and the packet that
 -- decides the loss time
 pub record IsOpenIn (told : OpenInSpace) (c : Settings) (h : List Event) (s : Space) : Type 0 where
   pub awaits : told.awaits ≡ list_any (awaits_acknowledgment c h) (packets_of h s)
-  pub oldest : loss_due (granularity c) (rtt c h) (largest_acknowledged h s) s told.oldest
+  pub oldest : loss_due c (rtt c h) (largest_acknowledged h s) s told.oldest
       ≡ timers.loss_due c h s
 
 -- of each space
@@ -45,11 +45,11 @@ pub record AreOpen (told : PerSpace OpenInSpace) (c : Settings) (h : List Event)
 
 abbrev pub earliest_loss : Connection → PerSpace OpenInSpace → Option Due
 earliest_loss k told =
-    earlier (loss_due (granularity k.header) k.rtt k.spaces.initial.largest Initial
+    earlier (loss_due k.header k.rtt k.spaces.initial.largest Initial
     told.initial.oldest)
-    (earlier (loss_due (granularity k.header) k.rtt k.spaces.handshake.largest Handshake
+    (earlier (loss_due k.header k.rtt k.spaces.handshake.largest Handshake
     told.handshake.oldest)
-    (loss_due (granularity k.header) k.rtt k.spaces.app.largest App told.app.oldest))
+    (loss_due k.header k.rtt k.spaces.app.largest App told.app.oldest))
 
 -- a probe timeout of the space, so long after a time
 abbrev pub pto_at : Space → Option ℕ → ℕ → ℕ → Option Due
@@ -85,11 +85,8 @@ is_idle told = not told.awaits && is_none told.oldest
 -- where those of application data are the only ones
 abbrev pub app_deadline : Connection → OpenInSpace → Option Due
 app_deadline k told =
-    option_or (loss_due (granularity k.header) k.rtt k.spaces.app.largest App told.oldest)
+    option_or (loss_due k.header k.rtt k.spaces.app.largest App told.oldest)
     (app_pto k told.awaits)
 
 abbrev pub packet_deadline : Connection → PerSpace OpenInSpace → Option Due
 packet_deadline k told = option_or (earliest_loss k told) (earliest_pto k told)
-
-abbrev pub deadline : Connection → PerSpace OpenInSpace → Option Due
-deadline k told = option_or (packet_deadline k told) (anti_deadlock k)

@@ -27,7 +27,8 @@ use Rattle.qa_base.specs.values.Limits.{max_lines}
 
 -- ---- what is kept
 
--- what losses are looked for by: the estimate before a refresh, and what is kept of each space
+-- what losses are looked for by: the estimate before what persistent congestion does to it, and
+-- what is kept of each space
 pub record IsMeasured (k : Connection) (c : Settings) (h : List Event) : Type 0 where
   pub header : k.header ≡ c
   pub rtt : k.rtt ≡ sampled c h
@@ -60,7 +61,7 @@ acknowledged_by c e h = map (sent_of c h) (reverse (newly_acknowledged (e ∷ h)
 
 -- what is lost by the event
 pub record AreLosses (o : Losses) (c : Settings) (h : List Event) : Type 0 where
-  pub last_lost : o.last_lost ≡ last_sent (loss.declared c h)
+  pub last_lost : o.last_lost ≡ last_sent c (loss.declared c h)
   pub is_persistent : o.is_persistent ≡ loss.is_persistent c h
 
 -- ---- the histories of which it is kept

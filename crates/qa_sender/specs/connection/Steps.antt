@@ -7,8 +7,10 @@ use Rattle.qa_base.specs.declared.event.Event.{Event}
 use Rattle.qa_base.specs.machine.Packets.{Packet}
 use Rattle.qa_base.specs.machine.Reno.{Control, Move, CongestionEvent, persistent_congestions, grow}
 use Rattle.qa_base.specs.machine.Reno.{is_app_limited, is_outside_recovery, latest_sent, moved}
-use Rattle.qa_base.specs.machine.Rtt.{Estimate, Sample, refreshed}
+use Rattle.qa_base.specs.machine.Rtt.{Sample}
 use Rattle.qa_base.specs.values.Limits.{min_datagram_size, max_packet_size}
+use Rattle.qa_base.specs.values.Settings.{Settings}
+use Rattle.qa_sent_packets.specs.Walks.{mark_of}
 use Rattle.qa_sent_packets.specs.declared.packet.SentPacket.{SentPacket}
 
 -- a number, or the greatest of 64 bits where it is greater
@@ -39,21 +41,16 @@ sample_by only time delay number ps =
     if list_any (gives_sample only number) ps then sample_at time delay
     (sent_at number ps) else None
 
--- the estimate after an event, refreshed where the header asks for it and the event establishes
--- persistent congestion (section 5.2)
-abbrev pub refreshed_if : Bool → Bool → Estimate → Estimate
-refreshed_if refreshes is_persistent r = if refreshes && is_persistent then refreshed r else r
-
 -- ---- the window
 
 -- a maximum datagram size in its range
 abbrev pub IsDatagramSize : ℕ → Type 0
 IsDatagramSize size = (min_datagram_size ≤ size) × (size ≤ max_packet_size)
 
--- when the last of the packets was sent, where there are any
-abbrev pub last_sent : List Packet → Option ℕ
-last_sent [] = None
-last_sent (p ∷ ps) = Some (latest_sent (p ∷ ps))
+-- when the last of the packets was sent, by which recovery is told, where there are any
+abbrev pub last_sent : Settings → List Packet → Option ℕ
+last_sent c [] = None
+last_sent c (p ∷ ps) = Some (latest_sent c (p ∷ ps))
 
 -- the move of a loss, of packets the last of which was sent at a time, where there are any
 abbrev pub hits_at : ℕ → Option ℕ → List Move
@@ -72,15 +69,16 @@ can_grow window size =
     && nat_le size max_packet_size
 
 -- the window after a packet was acknowledged, where the sizes allow it
-abbrev pub grown_by : ℕ → Control → SentPacket → Control
-grown_by max_datagram_size r p =
-    if p.in_flight && can_grow r.window p.size then grow max_datagram_size p.size p.time r else r
+abbrev pub grown_by : Settings → Control → SentPacket → Control
+grown_by c r p =
+    if p.in_flight && can_grow r.window p.size
+    then grow c.max_datagram_size p.size (mark_of c.options.recovery_by_order p) r else r
 
 -- the window after an event: first the loss by a detection at a time counts, then persistent
 -- congestion, then growth
-abbrev pub reno_after : ℕ → Control → ℕ → Event → List SentPacket → Option ℕ → Bool → Control
-reno_after max_datagram_size r now e ps last is_persistent =
-    let after_losses = fold (moved max_datagram_size) r (hits_at now last) in
-    let after_collapse = fold (moved max_datagram_size) after_losses
+abbrev pub reno_after : Settings → Control → ℕ → Event → List SentPacket → Option ℕ → Bool → Control
+reno_after c r now e ps last is_persistent =
+    let after_losses = fold (moved c.max_datagram_size) r (hits_at now last) in
+    let after_collapse = fold (moved c.max_datagram_size) after_losses
     (persistent_congestions is_persistent) in
-    fold (grown_by max_datagram_size) after_collapse (if is_app_limited e then [] else ps)
+    fold (grown_by c) after_collapse (if is_app_limited e then [] else ps)

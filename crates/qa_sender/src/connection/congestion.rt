@@ -16,7 +16,8 @@ const MAX_WINDOW: u64 = 4_611_686_018_427_387_904;
 /// What is lost by an event (RFC 9002, A.10).
 #[derive(Clone, Copy)]
 pub struct Losses {
-    /// When the last packet was sent that is lost by it, where there is one.
+    /// When the last packet was sent that is lost by it, by which recovery is told, where there is
+    /// one.
     pub last_lost: Option<Ticks>,
     /// Whether they establish persistent congestion (section 7.6).
     pub is_persistent: bool,
@@ -49,21 +50,20 @@ fn can_grow(window: u64, size: u64) -> bool
 }
 
 /// The window grows since the packet was acknowledged (B.5).
-fn grow_by(reno: &mut Reno, packet: &SentPacket, max_datagram_size: u64)
-    requires { IsDatagramSize max_datagram_size }
-    ensures { reno.new ≡ steps.grown_by max_datagram_size reno.old packet.now }
+fn grow_by(reno: &mut Reno, packet: &SentPacket, header: &Header)
+    ensures { reno.new ≡ steps.grown_by header.now reno.old packet.now }
 {
     if packet.in_flight && can_grow(reno.window, packet.size) {
-        reno.grow(packet.size, packet.time, max_datagram_size);
+        let sent = packet.mark(header.options().recovery_by_order);
+        reno.grow(packet.size, sent, header.max_datagram_size());
     }
 }
 
 /// The window grows since the packets were acknowledged, one after the other.
-pub(crate) fn grow(reno: &mut Reno, packets: &[SentPacket], max_datagram_size: u64)
-    requires { IsDatagramSize max_datagram_size }
-    ensures { reno.new ≡ fold (steps.grown_by max_datagram_size) reno.old packets.now }
+pub(crate) fn grow(reno: &mut Reno, packets: &[SentPacket], header: &Header)
+    ensures { reno.new ≡ fold (steps.grown_by header.now) reno.old packets.now }
 {
     for packet in packets {
-        grow_by(reno, packet, max_datagram_size);
+        grow_by(reno, packet, header);
     }
 }

@@ -1,11 +1,12 @@
 //! What is kept of a connection beside the packets that were sent.
-ghost use Rattle.std.specs.Prelude.{◌≡◌, [], fold};
+ghost use Rattle.std.specs.Prelude.{◌≡◌, [], fold, min};
 ghost use Rattle.qa_base.specs.machine.Window.{ssthresh_by, window_by};
 ghost use Rattle.qa_base.specs.values.Settings.{AreInRange};
 ghost use Rattle.qa_sender.specs.connection.Changes as steps;
 ghost use Rattle.qa_sender.specs.connection.Changes.{with_persistent_congestion, with_collapse_of};
 ghost use Rattle.qa_sender.specs.connection.Changes.{with_congestion_event, with_hit_since};
-ghost use Rattle.qa_sender.specs.connection.Changes.{with_sample};
+ghost use Rattle.qa_sender.specs.connection.Changes.{marked, with_sample};
+ghost use Rattle.qa_base.specs.values.Limits.{max_lines};
 ghost use Rattle.qa_sender.specs.connection.Known.{IsOf};
 ghost use Rattle.qa_sender.specs.connection.Reporting.{with_bytes};
 
@@ -17,6 +18,7 @@ use crate::connection::reported::{ReportedWindow, with_all};
 use crate::connection::spaces::SpaceState;
 use crate::connection::timer::TimerState;
 use crate::connection::{congestion, sampling, spaces};
+use qa_base::limits::MAX_LINES;
 use qa_base::{Controller, Header, PacketNumber, PerSpace, Permission, Space, Ticks};
 use qa_recovery::{Reno, Rtt};
 use qa_sent_packets::SentPacket;
@@ -91,6 +93,26 @@ impl Connection {
         }
     }
 
+    /// When an event happens at this time, by which recovery is told: then, or at the place of its
+    /// line where the header says that the order of the lines decides (RFC 9002, section 7.3.2).
+    pub fn mark(&self, time: Ticks) -> Ticks
+        ensures { result ≡ marked self.now time }
+    {
+        if self.header.options().recovery_by_order {
+            self.place()
+        } else {
+            time
+        }
+    }
+
+    /// How many events came before the next one, counted as times are. No trace has more than that
+    /// has room for.
+    pub fn place(&self) -> Ticks
+        ensures { result ≡ min self.now.events max_lines }
+    {
+        Ticks::of(self.events.min(MAX_LINES))
+    }
+
     /// Takes the sample of the round-trip time that an acknowledgment gives of the packets that it
     /// newly acknowledges, which stand in the order of sending (RFC 9002, sections 5.1 and 5.3).
     /// `largest` is the largest number that it acknowledges, `delay` what the peer reports.
@@ -106,7 +128,8 @@ impl Connection {
         let delay = sampling::limited_delay(&self.header, self.handshake.confirmed, delay);
         let only = self.header.options().sample_eliciting_only;
         let sent = sampling::sampled_at(acknowledged, largest, only);
-        sampling::sample(&mut self.rtt, sent, delay, now);
+        let less_delay = self.header.options().latest_rtt_less_delay;
+        sampling::sample(&mut self.rtt, less_delay, sent, delay, now);
     }
 
     /// Packets are lost by a detection, the last of which was sent at `last_sent`, where there are
@@ -126,13 +149,13 @@ impl Connection {
     }
 
     /// What is lost by a detection that newly acknowledged so many bytes establishes persistent
-    /// congestion, or not (B.8). It sets `min_rtt` anew where the header asks for that (section
-    /// 5.2).
+    /// congestion, or not (B.8). It resets the estimate of the round-trip time or refreshes its
+    /// minimum, where the header asks for that (section 5.2).
     fn on_persistent_congestion(&mut self, is_persistent: bool, acknowledged: u64)
         ensures value { self.new ≡ with_collapse_of acknowledged is_persistent self.old }
         ensures range { AreInRange self.old.header }
     {
-        sampling::refresh(&mut self.rtt, &self.header, is_persistent);
+        sampling::on_persistent_congestion(&mut self.rtt, &self.header, is_persistent);
         congestion::on_persistent_congestion(
             &mut self.reno,
             is_persistent,
@@ -161,33 +184,40 @@ impl Connection {
             ≡ steps.completed detection.now losses.last_lost losses.is_persistent self.old }
         ensures range { AreInRange self.old.header }
     {
-        self.on_congestion_event(losses.last_lost, detection.time, &detection.before);
+        self.on_congestion_event(losses.last_lost, detection.mark, &detection.before);
         self.on_persistent_congestion(losses.is_persistent, detection.acknowledged);
     }
 
-    /// What is kept of a detection in a space, as of `looked`, by an event that is happening now
-    /// and newly acknowledges these packets. NewReno is what it was before the event.
+    /// What is kept of a detection in a space, as of `looked`, by an event that newly acknowledges
+    /// these packets and happens now, at this mark. The estimate is the one with the event's
+    /// sample, and NewReno is what it was before the event. The numbers that lie far below the
+    /// largest acknowledged one are those below `far_end`.
     pub fn detected(
         &self,
         space: Space,
         looked: u64,
-        time: Ticks,
+        mark: Ticks,
         acknowledged: &[SentPacket],
+        far_end: u64,
     ) -> Detection
         ensures { result ≡ record {
           space = space;
           looked = looked;
-          time = time;
+          mark = mark;
+          rtt = self.now.rtt;
           before = self.now.reno;
           acknowledged = fold with_bytes 0 acknowledged.now;
+          far_end = far_end;
         } }
     {
         Detection {
             space,
             looked,
-            time,
+            mark,
+            rtt: self.rtt,
             before: self.reno,
             acknowledged: with_all(0, acknowledged),
+            far_end,
         }
     }
 
@@ -201,11 +231,7 @@ impl Connection {
         if app_limited {
             return;
         }
-        congestion::grow(
-            &mut self.reno,
-            acknowledged,
-            self.header.max_datagram_size(),
-        );
+        congestion::grow(&mut self.reno, acknowledged, &self.header);
     }
 
     /// Numbers of a space were acknowledged, of which this is the largest (A.7).

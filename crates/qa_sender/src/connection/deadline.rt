@@ -1,7 +1,7 @@
 //! The deadline of the loss detection timer (RFC 9002, section 6.2, A.8).
 ghost use Rattle.std.specs.Prelude.{◌≡◌, ◌≤◌, ◌+◌, ◌*◌, ◌^◌, min, List, None, option_map};
 ghost use Rattle.std.specs.Prelude.{if◌then◌else◌};
-ghost use Rattle.std.specs.Option.{option_or};
+ghost use Rattle.std.specs.Option.{option_copied, option_or};
 ghost use Rattle.qa_base.specs.declared.event.Event.{Event};
 ghost use Rattle.qa_base.specs.machine.Packets as packets;
 ghost use Rattle.qa_base.specs.machine.Timer as timers;
@@ -13,7 +13,7 @@ ghost use Rattle.qa_base.specs.values.PerSpace.{of_space};
 
 use crate::connection::connection::Connection;
 use crate::connection::spaces::SpaceState;
-use qa_base::{Due, PacketNumber, PerSpace, Space, Ticks, TimerKind};
+use qa_base::{Due, Header, PacketNumber, PerSpace, Space, Ticks, TimerKind};
 use qa_recovery::Rtt;
 use qa_sent_packets::SentPacket;
 
@@ -24,15 +24,6 @@ pub struct OpenInSpace {
     pub awaits: bool,
     /// The first in the order of sending that is in flight.
     pub oldest: Option<SentPacket>,
-}
-
-impl OpenInSpace {
-    /// Whether no packet of the space sets the timer.
-    fn is_idle(&self) -> bool
-        ensures { result ≡ deadlines.is_idle self.now }
-    {
-        !self.awaits && self.oldest.is_none()
-    }
 }
 
 // ---- losses
@@ -48,20 +39,22 @@ fn is_below_largest(number: PacketNumber, largest: Option<PacketNumber>) -> bool
 }
 
 /// When the oldest packet of the space is old, where it is below the largest acknowledged number.
+#[inline(always)]
 fn loss_due(
-    granularity: Ticks,
+    header: &Header,
     rtt: Rtt,
     largest: Option<PacketNumber>,
     space: Space,
-    oldest: Option<SentPacket>,
+    oldest: Option<&SentPacket>,
 ) -> Option<Due>
-    ensures { result ≡ deadlines.loss_due granularity rtt largest space oldest }
+    ensures { result
+        ≡ deadlines.loss_due header.now rtt largest space (option_copied oldest.entry) }
 {
     match oldest {
         Some(packet) if is_below_largest(packet.number, largest) => Some(Due {
             kind: TimerKind::Loss,
             space,
-            time: u128::from(packet.time.get() + rtt.loss_delay(granularity)),
+            time: u128::from(packet.time.get() + rtt.loss_delay(header)),
         }),
         _ => None,
     }
@@ -70,6 +63,7 @@ fn loss_due(
 // ---- probe timeouts
 
 /// A probe timeout of the space, so long after a time, where there is one.
+#[inline(always)]
 fn pto_at(space: Space, since: Option<Ticks>, base: u64, count: u64) -> Option<Due>
     requires base { base ≤ 6000000000000000 }
     ensures { result ≡ deadlines.pto_at space since base count }
@@ -78,6 +72,7 @@ fn pto_at(space: Space, since: Option<Ticks>, base: u64, count: u64) -> Option<D
 }
 
 /// The probe timeout of the space, where an open packet of it asks for an acknowledgment.
+#[inline(always)]
 fn pto_due(
     space: Space,
     awaits: bool,
@@ -99,30 +94,30 @@ impl Connection {
     fn earliest_loss(&self, packets: &PerSpace<OpenInSpace>) -> Option<Due>
         ensures { result ≡ deadlines.earliest_loss self.now packets.now }
     {
-        let granularity = self.header.granularity();
+        let header = &self.header;
         let spaces = &self.spaces;
         Due::earlier(
             loss_due(
-                granularity,
+                header,
                 self.rtt,
                 spaces.initial.largest,
                 Space::Initial,
-                packets.initial.oldest,
+                packets.initial.oldest.as_ref(),
             ),
             Due::earlier(
                 loss_due(
-                    granularity,
+                    header,
                     self.rtt,
                     spaces.handshake.largest,
                     Space::Handshake,
-                    packets.handshake.oldest,
+                    packets.handshake.oldest.as_ref(),
                 ),
                 loss_due(
-                    granularity,
+                    header,
                     self.rtt,
                     spaces.app.largest,
                     Space::App,
-                    packets.app.oldest,
+                    packets.app.oldest.as_ref(),
                 ),
             ),
         )
@@ -130,6 +125,7 @@ impl Connection {
 
     /// The probe timeout of application data, for which the peer may delay its acknowledgments. It
     /// counts once the handshake is confirmed.
+    #[inline(always)]
     fn app_pto(&self, awaits: bool) -> Option<Due>
         ensures { result ≡ deadlines.app_pto self.now awaits }
     {
@@ -173,7 +169,7 @@ impl Connection {
     }
 
     /// The timer that a client keeps until its address is validated (section 6.2.2.1).
-    fn anti_deadlock(&self) -> Option<Due>
+    pub fn anti_deadlock(&self) -> Option<Due>
         ensures { result ≡ deadlines.anti_deadlock self.now }
     {
         if self.handshake.is_validated(self.header.role()) {
@@ -196,38 +192,29 @@ impl Connection {
     /// of the space.
     pub fn loss_time(&self, space: Space, oldest: Option<SentPacket>) -> Option<u64>
         ensures { result ≡ option_map (λ d. d.time)
-            (deadlines.loss_due (granularity self.now.header) self.now.rtt
+            (deadlines.loss_due self.now.header self.now.rtt
             (of_space space self.now.spaces).largest space oldest) }
     {
         match oldest {
             Some(packet) if is_below_largest(packet.number, self.spaces.of(space).largest) => {
-                Some(packet.time.get() + self.rtt.loss_delay(self.header.granularity()))
+                Some(packet.time.get() + self.rtt.loss_delay(&self.header))
             }
             _ => None,
         }
     }
 
-    /// What the packets of application data set the timer for, where no others are open.
-    fn app_deadline(&self, packets: &OpenInSpace) -> Option<Due>
-        ensures { result ≡ deadlines.app_deadline self.now packets.now }
+    /// What the packets of application data set the timer for, where no others are open: whether
+    /// one of them is waited for, and the first that is in flight.
+    #[inline(always)]
+    pub fn app_deadline(&self, awaits: bool, oldest: Option<&SentPacket>) -> Option<Due>
+        ensures { result ≡ deadlines.app_deadline self.now
+            (record { awaits = awaits; oldest = option_copied oldest.entry }) }
     {
-        let granularity = self.header.granularity();
         let largest = self.spaces.app.largest;
-        match loss_due(granularity, self.rtt, largest, Space::App, packets.oldest) {
+        match loss_due(&self.header, self.rtt, largest, Space::App, oldest) {
             Some(due) => Some(due),
-            None => self.app_pto(packets.awaits),
+            None => self.app_pto(awaits),
         }
-    }
-
-    /// What the packets that are open set the timer for. After the handshake those of application
-    /// data are the only ones, so the other spaces are passed over.
-    fn due_by_packets(&self, packets: &PerSpace<OpenInSpace>) -> Option<Due>
-        ensures { result ≡ deadlines.packet_deadline self.now packets.now }
-    {
-        if packets.initial.is_idle() && packets.handshake.is_idle() {
-            return self.app_deadline(&packets.app);
-        }
-        self.earliest_loss(packets).or(self.earliest_pto(packets))
     }
 
     /// What the loss detection timer is set for by the packets that are open: the first of them
@@ -240,16 +227,6 @@ impl Connection {
             → IsProperToleratedRun c h
             → AreOpen packets.now c h → result ≡ timers.packet_deadline c h }
     {
-        self.due_by_packets(packets)
-    }
-
-    /// What the loss detection timer is set for; None where it is not set (RFC 9002, A.8).
-    /// `packets` is what it asks of the packets that are open.
-    #[tactic(auto, using(crate::proofs::connection_lemmas::Due::deadline_is))]
-    pub fn deadline(&self, packets: &PerSpace<OpenInSpace>) -> Option<Due>
-        ensures { (c : Settings) (h : List Event) → IsOf self.now c h → IsProperToleratedRun c h
-            → AreOpen packets.now c h → result ≡ timers.deadline c h }
-    {
-        self.packet_deadline(packets).or(self.anti_deadlock())
+        self.earliest_loss(packets).or(self.earliest_pto(packets))
     }
 }

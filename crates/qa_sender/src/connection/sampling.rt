@@ -48,11 +48,12 @@ pub(crate) fn limited_delay(header: &Header, confirmed: bool, delay: u64) -> u64
 }
 
 /// The sample of a packet that was sent then is taken in, where there is one.
-pub(crate) fn sample(rtt: &mut Rtt, sent: Option<Ticks>, delay: u64, now: Ticks)
-    ensures { rtt.new ≡ estimates.updated rtt.old (steps.sample_at now delay sent) }
+pub(crate) fn sample(rtt: &mut Rtt, less_delay: bool, sent: Option<Ticks>, delay: u64, now: Ticks)
+    ensures { rtt.new ≡ estimates.updated less_delay rtt.old (steps.sample_at now delay sent) }
 {
     if let Some(sent) = sent {
-        rtt.sample(Ticks::of(now.get().saturating_sub(sent.get())), delay, now);
+        let latest_rtt = Ticks::of(now.get().saturating_sub(sent.get()));
+        rtt.sample(less_delay, latest_rtt, delay, now);
     }
 }
 
@@ -72,12 +73,20 @@ pub(crate) fn sampled_at(packets: &[SentPacket], number: PacketNumber, only: boo
 }
 
 /// An event that found losses is taken in, with the event's sample before. Persistent congestion
-/// refreshes `min_rtt` where the header asks for it (RFC 9002, section 5.2).
-pub(crate) fn refresh(rtt: &mut Rtt, header: &Header, is_persistent: bool)
-    ensures { rtt.new ≡ steps.refreshed_if header.now.options.refresh_min_rtt is_persistent
-        rtt.old }
+/// resets the estimate, or else refreshes `min_rtt`, where the header asks for it (RFC 9002,
+/// section 5.2).
+pub(crate) fn on_persistent_congestion(rtt: &mut Rtt, header: &Header, is_persistent: bool)
+    ensures { rtt.new ≡ estimates.after_congestion header.now is_persistent rtt.old }
 {
-    if header.options().refresh_min_rtt && is_persistent {
+    if !is_persistent {
+        return;
+    }
+    let options = header.options();
+    if options.reset_rtt {
+        rtt.reset(Ticks::of(header.initial_rtt()));
+        return;
+    }
+    if options.refresh_min_rtt {
         rtt.refresh();
     }
 }

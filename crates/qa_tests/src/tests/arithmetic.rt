@@ -2,25 +2,27 @@
 ghost use Rattle.std.specs.Prelude.{◌≤◌, ◌^◌};
 ghost use Rattle.qa_base.specs.values.Limits.{max_packet_size, max_time};
 
-use qa_base::Ticks;
+use qa_base::{Header, Options, Role, Ticks};
 use qa_recovery::{Reno, Rtt};
+use std::test::Fail;
 
 /// The whole of a sender's arithmetic in a few lines: this is an example of docs/library.md.
 #[test]
-fn a_sender(rt: HostRuntime) {
-    // A millisecond in the unit of the times, here microseconds.
-    let granularity = Ticks::of(1000);
+fn a_sender(rt: HostRuntime) -> Result<(), Fail> {
+    // The granularity, a millisecond in the unit of the times, and the time threshold.
+    let header = Header::new(Role::Server, 1200, None, None, None)?;
     let mut rtt = Rtt::start(Ticks::of(333_000));
-    let timeout = rtt.pto_base(granularity);
+    let timeout = rtt.pto_base(header.granularity());
     // Ten packets were sent at time 0; an acknowledgment of the fourth comes after 100 ms.
-    rtt.sample(Ticks::of(100_000), 0, Ticks::of(100_000));
-    let delay = rtt.loss_delay(granularity);
+    rtt.sample(false, Ticks::of(100_000), 0, Ticks::of(100_000));
+    let delay = rtt.loss_delay(&header);
     // The first is three numbers behind, so it is lost: the window is halved, once a round trip.
     let mut reno = Reno::start(12_000);
     assert!(rt; reno.on_congestion_event(Ticks::of(0), Ticks::of(100_000), 1200));
     // The acknowledged packet was sent before recovery began, so that it does not grow the window.
     reno.grow(1200, Ticks::of(0), 1200);
     assert_eq!(rt; [timeout, delay, reno.window], [999_000, 112_500, 6000]);
+    Ok(())
 }
 
 /// An estimate before its first sample, with these values.
@@ -38,24 +40,42 @@ fn estimate(latest_rtt: u64, smoothed_rtt: u64, rttvar: u64) -> Rtt
     }
 }
 
-/// The loss delay by these values, with timers of a millisecond.
-fn loss_delay(latest_rtt: u64, smoothed_rtt: u64) -> u64
+/// The loss delay by these values, with this header.
+fn loss_delay(header: &Header, latest_rtt: u64, smoothed_rtt: u64) -> u64
     requires latest { latest_rtt ≤ max_time }
     requires smoothed { smoothed_rtt ≤ max_time }
 {
-    estimate(latest_rtt, smoothed_rtt, 0).loss_delay(Ticks::of(1000))
+    estimate(latest_rtt, smoothed_rtt, 0).loss_delay(header)
 }
 
 /// Nine eighths of the greater round-trip time, rounded up, and the granularity at least.
 #[test]
-fn loss_delays(rt: HostRuntime) {
+fn loss_delays(rt: HostRuntime) -> Result<(), Fail> {
+    let header = Header::new(Role::Server, 1200, None, None, None)?;
     let delays = [
-        loss_delay(0, 333_000),
-        loss_delay(100_001, 100_000),
-        loss_delay(100, 100),
-        loss_delay(1_000_000_000_000_000, 1),
+        loss_delay(&header, 0, 333_000),
+        loss_delay(&header, 100_001, 100_000),
+        loss_delay(&header, 100, 100),
+        loss_delay(&header, 1_000_000_000_000_000, 1),
     ];
     assert_eq!(rt; delays, [374_625, 112_502, 1000, 1_125_000_000_000_000]);
+    Ok(())
+}
+
+/// As many eighths of the greater round-trip time as the header says.
+#[test]
+fn loss_delays_by_the_time_threshold(rt: HostRuntime) -> Result<(), Fail> {
+    let header = Header::new(Role::Server, 1200, None, None, None)?;
+    let patient = header.choosing(Options {
+        time_threshold_eighths: 32,
+        ..Options::default()
+    })?;
+    let delays = [
+        loss_delay(&patient, 100_001, 100_000),
+        loss_delay(&patient, 1_000_000_000_000_000, 1),
+    ];
+    assert_eq!(rt; delays, [400_004, 4_000_000_000_000_000]);
+    Ok(())
 }
 
 /// The base of a probe timeout by these values, with timers of a millisecond.
@@ -89,15 +109,31 @@ fn first_sample(latest_rtt: u64) -> Rtt
 {
     let latest_rtt = Ticks::of(latest_rtt);
     let mut rtt = Rtt::start(Ticks::of(333_000));
-    rtt.sample(latest_rtt, 0, latest_rtt);
+    rtt.sample(false, latest_rtt, 0, latest_rtt);
     rtt
 }
 
 /// An estimate after a second sample, whose delay is greater than the sample.
 fn second_sample() -> Rtt {
     let mut rtt = first_sample(100_000);
-    rtt.sample(Ticks::of(120_000), u64::MAX, Ticks::of(400_000));
+    rtt.sample(false, Ticks::of(120_000), u64::MAX, Ticks::of(400_000));
     rtt
+}
+
+/// The latest round-trip time after a second sample that is kept less this delay.
+fn latest_less(delay: u64) -> u64 {
+    let mut rtt = first_sample(100_000);
+    rtt.sample(true, Ticks::of(120_000), delay, Ticks::of(400_000));
+    rtt.latest_rtt.get()
+}
+
+/// The delay is taken off the latest round-trip time too, unless that leaves less than the least.
+#[test]
+fn samples_less_the_delay(rt: HostRuntime) {
+    assert_eq!(rt;
+        [latest_less(20_000), latest_less(20_001)],
+        [100_000, 120_000]
+    );
 }
 
 /// A delay that would leave less than the least sample is not taken off.

@@ -142,3 +142,35 @@ fn ranges_are_lent_empty(rt: HostRuntime) {
     let mut session = Session::new(alloc);
     assert_eq!(rt; lend_twice(&mut session, alloc), Some((1, 0)));
 }
+
+/// The line of a header as it is written, and the beginning of another line.
+const RECORDED: &[u8] =
+    b"{\"event\":\"header\",\"initial_rtt\":333000,\"initial_window\":12000,\"max_ack_delay\":25000,\"max_datagram_size\":1200,\"role\":\"client\",\"version\":1}\n{\"event\":";
+
+/// Whether the session keeps the line of a header that is handed in by what it says, and a piece
+/// behind it as it is.
+fn is_recorded(session: &mut Session, header: Header) -> bool {
+    if !session.is_between_lines() {
+        return false;
+    }
+    session.push_said(&Line::Header(header));
+    session.feed(b"{\"event\":");
+    match session.recorded() {
+        Some(text) => text == RECORDED,
+        None => false,
+    }
+}
+
+/// A session that records keeps the text of what it is handed, and another keeps none.
+#[test]
+fn a_session_records_what_it_is_handed(rt: HostRuntime) -> Result<(), Fail> {
+    let header = Header::new(Role::Client, 1200, None, None, None)?;
+    let mut recording = Session::recording(rt.alloc());
+    let mut other = Session::new(rt.alloc());
+    let found = [
+        is_recorded(&mut recording, header),
+        is_recorded(&mut other, header),
+    ];
+    assert_eq!(rt; found, [true, false]);
+    Ok(())
+}

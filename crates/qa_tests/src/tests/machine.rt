@@ -114,6 +114,7 @@ fn is_told(cause: &Cause, first: PacketNumber, last: PacketNumber) -> bool {
             free: None,
             unnamed,
             unowed,
+            ..
         } => is_owed(owed, first, last) && unnamed.contains(first) && unowed.contains(last),
         _ => false,
     }

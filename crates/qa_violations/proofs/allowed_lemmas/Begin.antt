@@ -71,3 +71,12 @@ beside (Some d) pto anti due is = is
 -- by packets, where they set it
 pub due_by_packets : (c : Settings) (h : List Event) (due : Due) → Some due ≡ packet_deadline c h → Some due ≡ deadline c h
 due_by_packets c h due is = beside (earliest_loss c h) (earliest_pto c h) (anti_deadlock c h) due is
+
+nothing_beside : (loss pto anti : Option Due) → None ≡ option_or loss pto → anti ≡ option_or loss (option_or pto anti)
+nothing_beside None None anti is = refl
+nothing_beside None (Some d) anti is = cc
+nothing_beside (Some d) pto anti is = cc
+
+-- by a client that is not validated, where they do not
+pub due_by_client : (c : Settings) (h : List Event) → None ≡ packet_deadline c h → anti_deadlock c h ≡ deadline c h
+due_by_client c h is = nothing_beside (earliest_loss c h) (earliest_pto c h) (anti_deadlock c h) is

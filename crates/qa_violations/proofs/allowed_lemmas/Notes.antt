@@ -1,6 +1,8 @@
 -- What a table was told of, in parts; and the timer that was the most late of two lists.
-use Rattle.std.proofs.Common.{◌≡◌, ◌∙◌, ◌+◌, ◌<◌, ℕ, List, [], ◌∷◌, ◌++◌, Option, Some, append_assoc, get_or, length, take, refl, subst, sym, ap}
+use Rattle.std.proofs.Common.{◌≡◌, ◌∙◌, ◌+◌, ◌<◌, ℕ, false, List, [], ◌∷◌, ◌++◌, Option, None, Some, append_assoc, get_or, length, take, refl, subst, sym, ap}
 use Rattle.std.proofs.lemmas.List.{append-nil, map-append, take_more}
+use Rattle.std.specs.Prelude.{nat_lt}
+use Rattle.qa_base.specs.machine.Timer.{Due}
 use Rattle.qa_base.specs.declared.event.MetricValues.{MetricValues}
 use Rattle.qa_base.specs.declared.rule.Field.{Field}
 use Rattle.qa_base.specs.declared.rule.Rule.{Rule}
@@ -8,7 +10,7 @@ use Rattle.qa_base.specs.declared.rule.Rule.TheVariants as rule
 use Rattle.qa_base.specs.declared.totals.Totals.{Totals}
 use Rattle.qa_base.specs.values.Settings.{Settings}
 use Rattle.qa_violations.specs.allowed.Allowed.{beyond, metric_off, metrics_beyond}
-use Rattle.qa_violations.specs.allowed.Lines.{finding_of, findings_of, later, latest_from}
+use Rattle.qa_violations.specs.allowed.Lines.{finding_of, findings_of, late_if, later, latest_from}
 use Rattle.qa_violations.specs.declared.allowed.late.Late.{Late}
 use Rattle.qa_violations.specs.declared.table.finding.Finding.{Finding}
 use Rattle.qa_violations.specs.declared.table.table.Table.{Table}
@@ -35,6 +37,11 @@ holds_field t fs n c values held xs i x y within is holds =
     let all : metrics_beyond c values held (take (i + 1) xs) ≡ metrics_beyond c values held (take i xs) ++ here =
     ap (metrics_beyond c values held) more ∙ (metrics_of_both c values held (take i xs) (x ∷ []) ∙ ap (λ ys. metrics_beyond c values held (take i xs) ++ ys) (append-nil here)) in
     subst (λ ys. Holds t (fs ++ findings_of n ys)) (sym all) (holds_both t fs n (metrics_beyond c values held (take i xs)) here holds)
+
+-- a timer that was not late changes nothing
+pub not_late : (found : Option Late) (n : ℕ) (due : Option Due) (amount : ℕ) → nat_lt 0 amount ≡ false → found ≡ latest_from found (late_if n due amount)
+not_late found n None amount is = refl
+not_late found n (Some due) amount is = rw is refl
 
 -- the most late of one list and then another
 pub latest_of_both : (found : Option Late) (xs ys : List Late) → latest_from found (xs ++ ys) ≡ latest_from (latest_from found xs) ys

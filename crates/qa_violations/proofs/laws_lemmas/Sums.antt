@@ -26,18 +26,18 @@ use Rattle.qa_base.specs.history.Oldest.{due_of, is_flying}
 
 -- what is told of the packet
 told_packet : (c : Settings) (h : List Event) (s : Space) (p : Packet) → oldest_open c h s ≡ Some p
-    → basis_by c h (is_some (packet_deadline c h)) Loss s ≡ Some (basis.Packet p.number p.time (rtt c h).latest_rtt (rtt c h).smoothed_rtt)
+    → basis_by c h (is_some (packet_deadline c h)) Loss s ≡ Some (basis.Packet p.number p.time (rtt c h).latest_rtt (rtt c h).smoothed_rtt c.options.time_threshold_eighths)
 told_packet c h s p at =
-    ap (λ (o : Option Packet). option_map (λ (q : Oldest). basis.Packet q.number q.sent (rtt c h).latest_rtt (rtt c h).smoothed_rtt)
+    ap (λ (o : Option Packet). option_map (λ (q : Oldest). basis.Packet q.number q.sent (rtt c h).latest_rtt (rtt c h).smoothed_rtt c.options.time_threshold_eighths)
     (option_map (λ (q : Packet). record { number = q.number; sent = q.time }) o)) at
 
 of_first : (c : Settings) (h : List Event) (s : Space) (p : Packet) (due : Due) (below : Bool) → oldest_open c h s ≡ Some p
-    → (if below then Some (record { kind = Loss; space = s; time = p.time + loss_delay (granularity c) (rtt c h) }) else None) ≡ Some due → HasTerms c h due
+    → (if below then Some (record { kind = Loss; space = s; time = p.time + loss_delay c (rtt c h) }) else None) ≡ Some due → HasTerms c h due
 of_first c h s p due false at is = cc
 of_first c h s p due true at is =
-    let same : record { kind = Loss; space = s; time = p.time + loss_delay (granularity c) (rtt c h) } ≡ due = cc in
+    let same : record { kind = Loss; space = s; time = p.time + loss_delay c (rtt c h) } ≡ due = cc in
     subst (λ (d : Due). HasTerms c h d) same (record {
-      basis = basis.Packet p.number p.time (rtt c h).latest_rtt (rtt c h).smoothed_rtt;
+      basis = basis.Packet p.number p.time (rtt c h).latest_rtt (rtt c h).smoothed_rtt c.options.time_threshold_eighths;
       told = told_packet c h s p at;
       sum = refl;
     })

@@ -9,7 +9,8 @@ use Rattle.qa_base.specs.declared.rule.Field.{Field}
 use Rattle.qa_base.specs.declared.rule.Rule.{Rule}
 use Rattle.qa_base.specs.declared.rule.Rule.TheVariants as rule
 use Rattle.qa_base.specs.values.Constants.{default_packet_threshold}
-use Rattle.qa_base.specs.values.Settings.{is_may, is_reported}
+use Rattle.qa_base.specs.values.Constants.{default_time_threshold_eighths}
+use Rattle.qa_base.specs.values.Settings.{is_may, counts_packets, is_reported}
 use Rattle.qa_explain.specs.text.Values.{is_of_bytes}
 
 -- ---- what a rule allows
@@ -47,11 +48,20 @@ chosen is k = if is then k ∷ [] else []
 
 -- the keys that are set to another machine, in the order of the header: `min_rtt` is refreshed
 -- (RFC 9002, section 5.2), the window is the one that is reported (7), fewer acknowledgments give a
--- sample (5.1), the packet threshold is another (6.1.1), or packets past it may be spared
-abbrev pub choices : Options → List Key
+-- sample (5.1), the packet threshold is another (6.1.1), packets past it may be spared, it counts
+-- packets and not their numbers, persistent congestion resets the RTT (5.2), the latest one is kept
+-- less the peer's delay (5.3), the time threshold is another (6.1.2), or recovery goes by the order
+-- of the lines (7.3.2)
+unfoldable pub choices : Options → List Key
 choices o =
     chosen o.refresh_min_rtt key.RefreshMinRtt
     ++ chosen (is_reported o.controller) key.Window
     ++ chosen o.sample_eliciting_only key.SampleElicitingOnly
     ++ chosen (not (o.packet_threshold == default_packet_threshold)) key.PacketThreshold
     ++ chosen (is_may o.loss_by_number) key.LossByNumber
+    ++ chosen (counts_packets o.threshold_counts) key.ThresholdCounts
+    ++ chosen o.reset_rtt key.ResetRtt
+    ++ chosen o.latest_rtt_less_delay key.LatestRttLessDelay
+    ++ chosen (not (o.time_threshold_eighths == default_time_threshold_eighths))
+    key.TimeThresholdEighths
+    ++ chosen o.recovery_by_order key.RecoveryByOrder

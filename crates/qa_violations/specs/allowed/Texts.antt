@@ -108,6 +108,11 @@ threshold_text n =
     numbered (codes "  by choice: a packet threshold of ") n
     ++ codes " (packet_threshold)\n"
 
+unfoldable pub eighths_text : ℕ → List ℕ
+eighths_text n =
+    numbered (codes "  by choice: a time threshold of ") n
+    ++ codes "/8 (time_threshold_eighths)\n"
+
 abbrev pub choice_text : Options → Key → List ℕ
 choice_text o key.RefreshMinRtt =
     codes "  by choice: persistent congestion refreshes min_rtt (refresh_min_rtt)\n"
@@ -117,6 +122,15 @@ choice_text o key.SampleElicitingOnly = codes
 choice_text o key.PacketThreshold = threshold_text o.packet_threshold
 choice_text o key.LossByNumber =
     codes "  by choice: packets past the threshold may be spared (loss_by_number \"may\")\n"
+choice_text o key.ThresholdCounts =
+    codes "  by choice: the packet threshold counts packets (threshold_counts \"packets\")\n"
+choice_text o key.ResetRtt =
+    codes "  by choice: persistent congestion resets the RTT (reset_rtt)\n"
+choice_text o key.LatestRttLessDelay = codes
+    "  by choice: the latest RTT is kept less the peer's delay (latest_rtt_less_delay)\n"
+choice_text o key.TimeThresholdEighths = eighths_text o.time_threshold_eighths
+choice_text o key.RecoveryByOrder =
+    codes "  by choice: recovery goes by the order of the lines (recovery_by_order)\n"
 choice_text o k = []
 
 abbrev pub choices_text : Options → List Key → List ℕ

@@ -18,14 +18,13 @@ with_variation smoothed rttvar = record (start 0) { smoothed_rtt = smoothed; rtt
 
 -- the first term: when the packet was sent, or the timer set
 abbrev pub begins_at : Basis → ℕ
-begins_at (Packet number sent latest smoothed) = sent
+begins_at (Packet number sent latest smoothed eighths) = sent
 begins_at (Eliciting sent smoothed rttvar peer_delay count) = sent
 begins_at (Kept set smoothed rttvar count) = set
 
 -- the second: a loss delay, or a probe timeout
 abbrev pub delay_by : Settings → Basis → ℕ
-delay_by c (Packet number sent latest smoothed) =
-    loss_delay (granularity c) (with_rtts latest smoothed)
+delay_by c (Packet number sent latest smoothed eighths) = loss_delay c (with_rtts latest smoothed)
 delay_by c (Eliciting sent smoothed rttvar peer_delay count) =
     (pto_base (granularity c) (with_variation smoothed rttvar) + peer_delay) * 2 ^ count
 delay_by c (Kept set smoothed rttvar count) =

@@ -83,7 +83,7 @@ impl Allowances {
             return;
         };
         self.tally.note_if(counts, n, header, &self.before, event);
-        self.before = self.before.after(event, ledger);
+        self.before.follow(event, ledger);
         self.time = Some(event.time().get());
     }
 

@@ -75,8 +75,8 @@ pub(crate) fn metric_off(
 
 /// How long past the deadline a time is, counted from the time since which it is set where that is
 /// later.
-fn past_due(due: Option<Due>, since: u64, time: u64) -> u128
-    ensures { result ≡ allowed.past_due due since time }
+fn past_due(due: &Option<Due>, since: u64, time: u64) -> u128
+    ensures { result ≡ allowed.past_due due.now since time }
 {
     match due {
         None => 0,
@@ -88,7 +88,7 @@ fn past_due(due: Option<Due>, since: u64, time: u64) -> u128
 pub(crate) fn late_by(before: &Before, event: &Event) -> u128
     ensures { result ≡ allowed.late_by before.now event.now }
 {
-    past_due(before.packet_due, before.since, event.time().get())
+    past_due(&before.packet_due, before.since, event.time().get())
 }
 
 // ---- V19

@@ -1,5 +1,5 @@
 //! What the machine holds before an event, by which is told what the header allows it.
-ghost use Rattle.std.specs.Prelude.{◌≡◌, [], ◌∷◌, List, false};
+ghost use Rattle.std.specs.Prelude.{◌≡◌, [], ◌∷◌, List, false, if◌then◌else◌};
 ghost use Rattle.qa_base.specs.declared.event.Event.{Event as AnEvent};
 ghost use Rattle.qa_base.specs.machine.State as state;
 ghost use Rattle.qa_base.specs.machine.Timer as timers;
@@ -40,46 +40,38 @@ impl Before {
         }
     }
 
-    /// What is held after an event, by what the ledger that admitted it holds.
-    fn followed(
-        &self,
-        event: &Event,
-        totals: Totals,
-        due: Option<Due>,
-        packet_due: Option<Due>,
-        acknowledged: Option<u64>,
-    ) -> Before
-        ensures { result ≡ allowed.followed self.now event.now totals due packet_due acknowledged }
-    {
-        Before {
-            totals,
-            due,
-            packet_due,
-            since: if Due::is_same(self.due, due) {
-                self.since
-            } else {
-                event.time().get()
-            },
-            acknowledged,
-        }
-    }
-
-    /// What is held after the event, by the ledger that admitted it.
-    pub(crate) fn after<L: Explains>(&self, event: &Event, ledger: &L) -> Before
+    /// Goes on to what is held after the event, by the ledger that admitted it.
+    #[inline(always)]
+    pub(crate) fn follow<L: Explains>(&mut self, event: &Event, ledger: &L)
         requires works { L.has_failed ledger.now ≡ false }
         ensures { (c : Settings) (h : List AnEvent)
-            → self.now ≡ allowed.before c h → L.stands ledger.now c (event.now ∷ h)
-            → result ≡ allowed.before c (event.now ∷ h) }
+            → self.old ≡ allowed.before c h → L.stands ledger.now c (event.now ∷ h)
+            → self.new ≡ allowed.before c (event.now ∷ h) }
     {
         let packet_due = ledger.packet_deadline();
         let due = due_beside(&packet_due, ledger);
-        let acknowledged = ledger.acknowledged_since_collapse();
-        self.followed(event, ledger.totals(), due, packet_due, acknowledged)
+        self.since = since_with(self.since, &self.due, &due, event.time().get());
+        self.due = due;
+        self.packet_due = packet_due;
+        self.totals = ledger.totals();
+        self.acknowledged = ledger.acknowledged_since_collapse();
     }
 }
 
-/// What the timer is set for, by what it is set for by packets. The ledger is asked only where that
-/// is nothing: each answer takes a walk over the packet number spaces.
+/// Since when the timer is set for what it is set for now, by what it was set for before.
+#[inline(always)]
+fn since_with(since: u64, old: &Option<Due>, new: &Option<Due>, time: u64) -> u64
+    ensures { result ≡ (if timers.is_same_due old.now new.now then since else time) }
+{
+    match (old, new) {
+        (Some(old), Some(new)) if *old == *new => since,
+        _ => time,
+    }
+}
+
+/// What the timer is set for, by what it is set for by packets: where that is nothing, by what a
+/// client sets it for that is not validated.
+#[inline(always)]
 fn due_beside<L: Explains>(packet_due: &Option<Due>, ledger: &L) -> Option<Due>
     requires works { L.has_failed ledger.now ≡ false }
     ensures { (c : Settings) (h : List AnEvent) → packet_due.now ≡ timers.packet_deadline c h
@@ -87,6 +79,6 @@ fn due_beside<L: Explains>(packet_due: &Option<Due>, ledger: &L) -> Option<Due>
 {
     match packet_due {
         Some(due) => Some(*due),
-        None => ledger.deadline(),
+        None => ledger.anti_deadlock(),
     }
 }

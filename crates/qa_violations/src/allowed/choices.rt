@@ -3,7 +3,7 @@
 ghost use Rattle.std.specs.Prelude.{◌≡◌, ◌++◌, IfOk, OnOk};
 ghost use Rattle.qa_violations.specs.allowed.Choices as defined;
 
-use qa_base::constants::DEFAULT_PACKET_THRESHOLD;
+use qa_base::constants::{DEFAULT_PACKET_THRESHOLD, DEFAULT_TIME_THRESHOLD_EIGHTHS};
 use qa_base::{Field, Key, Options, Rule};
 use std::alloc::{AllocError, Global};
 
@@ -70,10 +70,12 @@ fn push_chosen(keys: &mut Vec<Key>, is: bool, key: Key) -> Result<(), AllocError
 
 /// The keys that are set to another machine, in the order of the header. `AllocError` comes where
 /// it is out of memory.
+#[tactic(auto, unfolding(crate::specs::allowed::Choices::choices))]
 pub(crate) fn choices(alloc: Global, options: &Options) -> Result<Vec<Key>, AllocError>
     ensures { IfOk result (λ keys. keys.items ≡ defined.choices options.now) }
 {
     let threshold = options.packet_threshold != DEFAULT_PACKET_THRESHOLD;
+    let eighths = options.time_threshold_eighths != DEFAULT_TIME_THRESHOLD_EIGHTHS;
     let mut keys = Vec::new(alloc);
     push_chosen(&mut keys, options.refresh_min_rtt, Key::RefreshMinRtt)?;
     push_chosen(&mut keys, options.controller.is_reported(), Key::Window)?;
@@ -88,5 +90,18 @@ pub(crate) fn choices(alloc: Global, options: &Options) -> Result<Vec<Key>, Allo
         options.loss_by_number.is_may(),
         Key::LossByNumber,
     )?;
+    push_chosen(
+        &mut keys,
+        options.threshold_counts.counts_packets(),
+        Key::ThresholdCounts,
+    )?;
+    push_chosen(&mut keys, options.reset_rtt, Key::ResetRtt)?;
+    push_chosen(
+        &mut keys,
+        options.latest_rtt_less_delay,
+        Key::LatestRttLessDelay,
+    )?;
+    push_chosen(&mut keys, eighths, Key::TimeThresholdEighths)?;
+    push_chosen(&mut keys, options.recovery_by_order, Key::RecoveryByOrder)?;
     Ok(keys)
 }

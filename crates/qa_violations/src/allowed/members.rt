@@ -32,7 +32,7 @@ fn measured_limit(unit: TimeUnit, rule: Rule, limit: u64) -> u128
     unit.of_microseconds(limit)
 }
 
-fn some_limit(unit: TimeUnit, rule: Rule, limit: Option<u64>) -> Option<u128>
+pub(crate) fn some_limit(unit: TimeUnit, rule: Rule, limit: Option<u64>) -> Option<u128>
     ensures { result ≡ option_map (text.measured_limit unit rule) limit }
 {
     match limit {

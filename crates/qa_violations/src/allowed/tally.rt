@@ -36,6 +36,7 @@ pub(crate) struct Tally {
 }
 
 /// Notes an amount past what the rule asks, where there is one.
+#[inline(always)]
 fn note_beyond(table: &mut Table, line: u64, rule: Rule, amount: u128)
     ensures { (fs : List AFinding) → Holds table.old fs
         → Holds table.new (fs ++ lines.findings_of line (allowed.beyond rule amount)) }
@@ -73,9 +74,9 @@ fn note_report(table: &mut Table, line: u64, header: &Header, before: &Before, e
     }
 }
 
-/// The timer that was the most late, behind one that may have been late by so much.
-fn latest_with(found: Option<Late>, line: u64, due: Option<Due>, amount: u128) -> Option<Late>
-    ensures { result ≡ lines.latest_from found (lines.late_if line due amount) }
+/// The timer that was the most late, behind one that was late by so much.
+fn latest_with(found: Option<Late>, line: u64, due: &Option<Due>, amount: u128) -> Option<Late>
+    ensures { result ≡ lines.latest_from found (lines.late_if line due.now amount) }
 {
     match due {
         Some(due) if 0 < amount => Some(later(
@@ -117,7 +118,20 @@ impl Tally {
         note_beyond(table, line, Rule::TimerLate, late);
         let above = past_collapse_by(header, before, event);
         note_beyond(table, line, Rule::CollapseMissing, above);
-        self.latest = latest_with(self.latest, line, before.packet_due, late);
+        self.note_late(line, &before.packet_due, late);
+    }
+
+    /// Notes a timer that may have been late by so much. Mostly it was not.
+    #[inline(always)]
+    #[tactic(auto, using(crate::proofs::allowed_lemmas::Notes::not_late))]
+    fn note_late(&mut self, line: u64, due: &Option<Due>, amount: u128)
+        ensures latest { self.new.latest
+            ≡ lines.latest_from self.old.latest (lines.late_if line due.now amount) }
+        ensures table { self.new.table ≡ self.old.table }
+    {
+        if 0 < amount {
+            self.latest = latest_with(self.latest, line, due, amount);
+        }
     }
 
     /// The same where the event counts.

@@ -226,6 +226,15 @@ fn push_threshold(out: &mut String, threshold: u64) -> Result<(), AllocError>
     push_words(out, " (packet_threshold)\n")
 }
 
+#[tactic(auto, unfolding(crate::specs::allowed::Texts::eighths_text))]
+fn push_eighths(out: &mut String, eighths: u64) -> Result<(), AllocError>
+    ensures { OnOk result (string_bytes out.new
+        ≡ string_bytes out.old ++ text.eighths_text eighths) }
+{
+    push_number(out, "  by choice: a time threshold of ", eighths)?;
+    push_words(out, "/8 (time_threshold_eighths)\n")
+}
+
 fn push_choice(out: &mut String, options: &Options, key: Key) -> Result<(), AllocError>
     ensures { OnOk result (string_bytes out.new
         ≡ string_bytes out.old ++ text.choice_text options.now key) }
@@ -247,6 +256,23 @@ fn push_choice(out: &mut String, options: &Options, key: Key) -> Result<(), Allo
         Key::LossByNumber => push_words(
             out,
             "  by choice: packets past the threshold may be spared (loss_by_number \"may\")\n",
+        ),
+        Key::ThresholdCounts => push_words(
+            out,
+            "  by choice: the packet threshold counts packets (threshold_counts \"packets\")\n",
+        ),
+        Key::ResetRtt => push_words(
+            out,
+            "  by choice: persistent congestion resets the RTT (reset_rtt)\n",
+        ),
+        Key::LatestRttLessDelay => push_words(
+            out,
+            "  by choice: the latest RTT is kept less the peer's delay (latest_rtt_less_delay)\n",
+        ),
+        Key::TimeThresholdEighths => push_eighths(out, options.time_threshold_eighths),
+        Key::RecoveryByOrder => push_words(
+            out,
+            "  by choice: recovery goes by the order of the lines (recovery_by_order)\n",
         ),
         _ => Ok(()),
     }

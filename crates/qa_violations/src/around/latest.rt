@@ -69,6 +69,7 @@ impl Latest {
 
     /// Keeps the row of a good line, by the ledger behind it. `AllocError` comes where it is out of
     /// memory; nothing is promised then of what is kept.
+    #[inline(always)]
     pub fn note_said<L: Explains>(
         &mut self,
         n: u64,

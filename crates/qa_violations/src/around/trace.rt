@@ -31,6 +31,7 @@ impl<L: Explains + Drop> Notes<L> for Latest {
 
     ghost covers = { Covers };
 
+    #[inline(always)]
     fn note(
         &mut self,
         _name: &str,
@@ -71,6 +72,7 @@ impl<L: Explains + Drop> Notes<L> for Allowances {
 
     ghost covers = { Covers };
 
+    #[inline(always)]
     fn note(
         &mut self,
         _name: &str,

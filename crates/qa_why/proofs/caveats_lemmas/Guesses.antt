@@ -1,9 +1,35 @@
 -- Guesses of one line more.
 use Rattle.std.proofs.lemmas.Bool.{ne_eqb}
-use Rattle.std.specs.Prelude.{◌==◌}
-use Rattle.std.proofs.Common.{◌≡◌, ◌∙◌, false, ℕ, suc, ◌+◌, List, [], ◌∷◌, ◌++◌, length, reverse, refl, sym, ap, arith, if◌then◌else◌, min, ◌^◌, ◌-◌}
+use Rattle.std.specs.Prelude.{◌==◌, codes, is_some, slice_index}
+use Rattle.memchr.proofs.lemmas.ValueLemmas.{FindsNeedle-value}
+use Rattle.memchr.specs.Find.{FindsNeedle, IsFirstByte, OccursAt, is_byte}
+use Rattle.std.proofs.Common.{◌≡◌, ◌∙◌, true, false, ℕ, suc, ◌+◌, ◌<◌, List, [], ◌∷◌, ◌++◌, Option, None, Some, length, reverse, refl, sym, ap, arith, if◌then◌else◌, min, ◌^◌, ◌-◌}
 use Rattle.std.proofs.lemmas.List.{append_assoc, append-nil, length-append, reverse-append}
-use Rattle.qa_why.specs.caveats.Guesses.{Guess, counted, first_bytes, first_line, guess_on, guesses, guesses_behind, with_guess}
+use Rattle.qa_why.specs.caveats.Guesses.{Guess, counted, first_bytes, first_line, guess_on, guesses, guesses_behind, is_guessed, with_guess}
+
+-- ---- a line without an x
+
+abbrev key : List ℕ
+key = codes "\"x_guess\""
+
+key_length : length key ≡ 9
+key_length = refl
+
+-- the key has an x
+has_x : (l : List ℕ) (k : ℕ) → OccursAt l key k → is_byte 120 (slice_index l (k + 1)) ≡ true
+has_x l k occurs =
+    let at : slice_index l (k + 1) ≡ 120 = occurs.reads 1 (omega (arith, key_length)) in
+    ap (is_byte 120) at
+
+keyless : (l : List ℕ) → IsFirstByte (is_byte 120) l None → FindsNeedle l key 0 None
+keyless l none = λ k low high occurs. none (k + 1) (omega arith) (let fits = occurs.fits in omega (arith, fits, key_length)) (has_x l k occurs)
+
+-- so nothing on it was guessed
+pub unguessed : (l : List ℕ) (found : Option ℕ) → is_some found ≡ false → IsFirstByte (is_byte 120) l found → false ≡ is_guessed l
+unguessed l None none is = ap is_some (FindsNeedle-value l key None (keyless l is))
+unguessed l (Some k) none is = cc
+
+-- ---- one line more
 
 behind_snoc : (n : ℕ) (ls : List (List ℕ)) (l : List ℕ) → guesses_behind n (ls ++ l ∷ []) ≡ guesses_behind n ls ++ guess_on (n + length ls + 1) l
 behind_snoc n [] l = append-nil (guess_on (n + 1) l) ∙ ap (λ k. guess_on k l) (omega arith)

@@ -11,7 +11,7 @@ use Rattle.qa_base.specs.values.Settings.{Settings}
 use Rattle.qa_ledger.specs.causes.Causes.{owed_now}
 use Rattle.qa_ledger.specs.declared.causes.cause.Owed.{Owed}
 use Rattle.qa_explain.specs.members.Deadlines.{due_facts}
-use Rattle.qa_explain.specs.members.Losses.{owed}
+use Rattle.qa_explain.specs.members.Losses.{owed_runs}
 use Rattle.qa_explain.specs.members.Object.{amount_at, number_at, opened, text_of}
 use Rattle.qa_explain.specs.members.Sending.{bytes_at}
 
@@ -44,8 +44,8 @@ estimate unit t =
 -- the object that has them, and what is owed and what the timer is set for, but for its end
 unfoldable pub state_members : TimeUnit → Totals → Owed → Option Due → List Token
 state_members u t o due =
-    begun t.events ++ congestion t ++ samples (unit_name u) t ++ estimate (unit_name u) t ++ owed o
-    ++ due_facts u due
+    begun t.events ++ congestion t ++ samples (unit_name u) t ++ estimate (unit_name u) t
+    ++ owed_runs o ++ due_facts u due
 
 -- that of the state behind a history
 abbrev pub state_tokens : Settings → List Event → List Token

@@ -27,7 +27,8 @@ second_keys = key.TimerLateUs ∷ key.RefreshMinRtt ∷ key.ReportSlackUs ∷ ke
 abbrev pub third_keys : List Key
 third_keys =
     key.Unit ∷ key.Window ∷ key.WindowOvershoot ∷ key.SampleElicitingOnly ∷ key.PacketThreshold
-    ∷ key.TimerEarlyUs ∷ key.LossByNumber ∷ []
+    ∷ key.TimerEarlyUs ∷ key.LossByNumber ∷ key.ThresholdCounts ∷ key.ResetRtt
+    ∷ key.LatestRttLessDelay ∷ key.TimeThresholdEighths ∷ key.RecoveryByOrder ∷ []
 
 abbrev pub header_keys : Version → List Key
 header_keys One = first_keys

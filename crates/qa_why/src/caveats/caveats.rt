@@ -95,6 +95,7 @@ impl Caveats {
     }
 
     /// Notes what a line says: the header, or a packet.
+    #[inline(always)]
     fn note_said(&mut self, line: &[u8], said: &Line) -> Result<(), AllocError>
         ensures guesses { self.new.guesses ≡ self.old.guesses }
         ensures missing { self.new.missing ≡ text.missing_behind self.old.missing said.now }

@@ -4,6 +4,7 @@ ghost use Rattle.qa_why.specs.caveats.Guesses as text;
 ghost use Rattle.qa_why.specs.caveats.Guesses.{AreNoted, Guess, guess_on};
 
 use crate::caveats::remarks::push_remarks;
+use memchr::memchr;
 use memchr::memmem::find;
 use qa_explain::text::{push_number, push_words};
 use std::alloc::{AllocError, Global};
@@ -14,11 +15,16 @@ const QUOTED_KEY: &[u8] = b"\"x_guess\"";
 /// How many lines before a refused one a guess is named.
 const NEAR_LINES: u64 = 8;
 
-/// Whether something on the line was guessed.
+/// Whether something on the line was guessed. Few lines have the key's `x`, whose search takes half
+/// as long as that of the key.
 pub(crate) fn is_guessed(line: &[u8]) -> bool
     ensures { result ≡ text.is_guessed line.now }
 {
-    find(line, QUOTED_KEY).is_some()
+    if memchr(b'x', line).is_some() {
+        find(line, QUOTED_KEY).is_some()
+    } else {
+        false
+    }
 }
 
 /// How many lines of a trace were guessed.
@@ -84,6 +90,7 @@ impl Guesses {
     }
 
     /// Notes line n, where something on it was guessed.
+    #[inline(always)]
     pub(crate) fn note(&mut self, n: u64, line: &[u8]) -> Result<(), AllocError>
         ensures { OnOk result ((gs : List Guess) → AreNoted self.old gs
             → AreNoted self.new (gs ++ guess_on n line.now)) }

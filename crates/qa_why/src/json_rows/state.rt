@@ -6,7 +6,7 @@ ghost use Rattle.qa_explain.specs.members.Object.{text_of};
 ghost use Rattle.qa_why.specs.json_rows.State as text;
 
 use qa_base::{Due, TimeUnit, Totals};
-use qa_explain::members::{Object, push_bytes, push_due, push_owed};
+use qa_explain::members::{Object, push_bytes, push_due, push_owed_runs};
 use qa_ledger::{Explains, Owed};
 use std::alloc::{AllocError, Global};
 
@@ -69,7 +69,7 @@ fn state_object(
     push_congestion(&mut object, totals)?;
     push_samples(&mut object, unit.name(), totals)?;
     push_estimate(&mut object, unit.name(), totals)?;
-    push_owed(&mut object, owed)?;
+    push_owed_runs(&mut object, owed)?;
     push_due(&mut object, unit, due)?;
     Ok(object)
 }

@@ -50,6 +50,11 @@ fn header_keys(version: Version) -> &'static [Key]
             Key::PacketThreshold,
             Key::TimerEarlyUs,
             Key::LossByNumber,
+            Key::ThresholdCounts,
+            Key::ResetRtt,
+            Key::LatestRttLessDelay,
+            Key::TimeThresholdEighths,
+            Key::RecoveryByOrder,
         ],
     }
 }

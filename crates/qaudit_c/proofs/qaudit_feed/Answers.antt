@@ -13,5 +13,6 @@ returns c = rw (c.take.ensures.taken, c.in-Some.is) (
     finished = rw c.deref_mut.ensures.value at c.feed-phase.ensures.finished;
     same = rw c.deref_mut.ensures.value at c.feed-phase.ensures.same;
     kept = rw c.deref_mut.ensures.value at c.feed-phase.ensures.kept;
+    recorded = rw c.deref_mut.ensures.value at c.feed-phase.ensures.recorded;
   },
 )

@@ -1,4 +1,4 @@
-//! A test of the sender, which fails at its first violation of RFC 9002.
+//! A test of the sender, which fails at its first violation of RFC 9002, with the reason.
 
 use std::fs::File;
 use std::io::Write;
@@ -19,7 +19,7 @@ impl Audit {
         let path = PathBuf::from(env!("CARGO_TARGET_TMPDIR")).join(format!("{name}.trace"));
         let trace = File::create(&path).expect("a file for the trace");
         let mut audit = Self {
-            auditor: Auditor::without_header().expect("memory"),
+            auditor: Auditor::recorded_without_header().expect("memory"),
             path,
             trace,
         };
@@ -47,11 +47,8 @@ impl Audit {
     }
 
     fn why(&mut self) -> String {
-        let first = self.auditor.first_line();
-        format!(
-            "{first}\nfor the reason run: qaudit-why {}",
-            self.path.display()
-        )
+        let reason = self.auditor.around(3);
+        format!("{reason}the trace is {}", self.path.display())
     }
 }
 

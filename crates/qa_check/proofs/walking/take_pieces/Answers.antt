@@ -1,6 +1,6 @@
 use Rattle.std.proofs.Common.{◌∙◌, inl, inr, refl, arith}
 use Rattle.std.proofs.KnownBytes.{Consumes-kept, Consumes-trans}
-use Rattle.qa_format.specs.format.Lines.{ended_lines, lines}
+use Rattle.qa_format.specs.format.Lines.{lines}
 use Rattle.qa_check.proofs.Ends.{covers_ended, walks_halted}
 use Rattle.qa_check.proofs.Following.{follow_few, follow_open}
 use Rattle.qa_check.proofs.Reading.{read_piece, more_bytes, open_read, reads_failed, reads_piece, reads_nothing}

@@ -10,9 +10,7 @@ use Rattle.qa_base.specs.machine.Packets.{history_of}
 use Rattle.qa_base.specs.machine.Rtt.{pto_base}
 use Rattle.qa_base.specs.machine.Timer.{Due, pto_count, last_set, anti_deadlock}
 use Rattle.qa_base.specs.values.Settings.{Settings, granularity}
-use Rattle.qa_reference.specs.Looks.{Seen}
 use Rattle.qa_reference.proofs.Powers.{few_doublings}
-use Rattle.qa_reference.proofs.Refreshed.{same_pto_base}
 use Rattle.qa_reference.proofs.deadlines.anti_deadlock.Goals.{then-has_keys, else-has_keys}
 use Rattle.qa_reference.proofs.deadlines.anti_deadlock.Goals as goal
 
@@ -41,7 +39,7 @@ returns c =
       | then-has_keys w ↦ w.space-is ∙ ap by (sym w.if-has_keys.true ∙ c.has_keys.ensures)
       | else-has_keys w ↦ w.space-is ∙ ap by (sym w.if-has_keys.false ∙ c.has_keys.ensures)
     ] in
-    let base = c.pto_base.ensures.value ∙ (ap (λ (l : Seen). pto_base c.granularity.result l.rtt) c.look.view_is ∙ (ap (λ (g : ℕ). pto_base g c.args.look.rtt) c.granularity.ensures ∙ (ap (pto_base (granularity s)) c.requires.seen.0 ∙ sym (same_pto_base s h)))) in
+    let base = c.pto_base.ensures.value ∙ (ap (λ (g : ℕ). pto_base g c.args.rtt) c.granularity.ensures ∙ ap (pto_base (granularity s)) c.requires.known) in
     let last = sym c.last_set.ensures ∙ c.in_ok-set.was in
     ap Some c.probe_timeout.ensures
     ∙ set_for s h c.in_ok-set.set c.if-has_keys.space c.pto_base.result c.args.count (sym c.is_validated.ensures ∙ c.if-is_validated.false) last space base c.requires.counted c.requires.few

@@ -1,4 +1,4 @@
-use Rattle.std.proofs.Common.{◌≡◌, ◌∙◌, ◌∷◌, List, sym, ap, subst, arith, take}
+use Rattle.std.proofs.Common.{◌≡◌, ◌∙◌, ◌+◌, ◌∷◌, List, sym, ap, subst, arith, take}
 use Rattle.std.proofs.lemmas.List.{length-take-le}
 use Rattle.std.proofs.lemmas.List.Elements.{All-take}
 use Rattle.qa_base.specs.declared.event.Event.{Event}
@@ -17,16 +17,21 @@ reno_after-reno-requires-clause-lost c =
     subst (λ (h : List Event). IsCongestion c.args.header.now h c.congestion_of-congestion.result) (one_more c.args.events.now c.loop-place.place c.index-events-place.result c.loop-place-test.true c.index-events-place.is) c.congestion_of-congestion.ensures
 
 pub congestion_of-congestion-requires : goal.congestion_of-congestion-requires
-congestion_of-congestion-requires c = record { seen = c.losses_after-losses.ensures }
+congestion_of-congestion-requires c =
+    let count = length-take-le (c.loop-place.place + 1) c.args.events.now (omega (arith, c.loop-place-test.true)) in
+    record { seen = c.losses_after-losses.ensures; few = omega (arith, c.requires.few, c.loop-place-test.true, count) }
 
 pub reno_after-reno-requires-clause-known : goal.reno_after-reno-requires-clause-known
 reno_after-reno-requires-clause-known c = c.loop-place.invariant.reno
 
-pub refreshed_where_asked-rtt-requires : goal.refreshed_where_asked-rtt-requires
-refreshed_where_asked-rtt-requires c = record { seen = c.losses_after-losses.ensures }
+pub after_congestion-estimates-requires : goal.after_congestion-estimates-requires
+after_congestion-estimates-requires c = record { seen = c.losses_after-losses.ensures }
+
+pub with_sample-own-requires : goal.with_sample-own-requires
+with_sample-own-requires c = record { known = c.loop-place.invariant.estimates }
 
 pub losses_after-losses-requires-clause-known : goal.losses_after-losses-requires-clause-known
-losses_after-losses-requires-clause-known c = c.loop-place.invariant.rtt
+losses_after-losses-requires-clause-known c = c.with_sample-own.ensures.0
 
 pub loop-place-preserved : goal.loop-place-preserved
 loop-place-preserved c =
@@ -39,7 +44,7 @@ loop-place-preserved c =
     let spent : c.spent_after-spent.result ≡ recovery_spent s (e ∷ h) =
     rw (c.spent_after-spent.ensures.value, c.enters-entered.ensures, lost.0, detected, c.recovery_mark.ensures.value h, c.loop-place.invariant.value) (sym (recovery_spent_is s e h)) in
     record {
-      rtt = c.refreshed_where_asked-rtt.ensures;
+      estimates = c.after_congestion-estimates.ensures c.index-events-place.result (history_of (take c.loop-place.place c.args.events.now)) next c.with_sample-own.ensures;
       earlier = c.loop-place.invariant.reno ∙ sym (ap (λ (h : List Event). reno c.args.header.now (before_last h)) next);
       reno = c.reno_after-reno.ensures ∙ sym (ap (reno c.args.header.now) next);
       value = spent ∙ sym (ap (recovery_spent s) next);

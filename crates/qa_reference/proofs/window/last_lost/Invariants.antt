@@ -5,4 +5,4 @@ use Rattle.qa_reference.specs.Words.{last_sending}
 use Rattle.qa_reference.proofs.window.last_lost.Given as goal
 
 abbrev pub invariant-loop-place : goal.invariant-loop-place
-invariant-loop-place l = l.last ≡ last_sending (lost_in (history_of l.events) l.losses (history_of (take l.place l.events)))
+invariant-loop-place l = l.last ≡ last_sending l.header (lost_in (history_of l.events) l.losses (history_of (take l.place l.events)))

@@ -1,11 +1,11 @@
 use Rattle.std.proofs.Common.{◌≡◌, take}
-use Rattle.qa_base.specs.machine.Estimates.{rtt}
 use Rattle.qa_base.specs.machine.Packets.{history_of}
 use Rattle.qa_base.specs.machine.Reno.{reno}
+use Rattle.qa_reference.specs.Estimated.{AreEstimates}
 use Rattle.qa_reference.proofs.window.reno.Given as goal
 
 abbrev pub invariant-loop-place : goal.invariant-loop-place
 invariant-loop-place l = record {
-  rtt : l.rtt ≡ rtt l.header (history_of (take l.place l.events));
+  estimates : AreEstimates l.header (history_of (take l.place l.events)) l.estimates;
   reno : l.reno ≡ reno l.header (history_of (take l.place l.events));
 }

@@ -6,7 +6,7 @@ use Rattle.qa_base.specs.declared.key.Key.TheVariants as key
 use Rattle.qa_base.specs.declared.header.Version.{Version}
 use Rattle.qa_base.specs.declared.header.Version.TheVariants.{One, Two, Three}
 use Rattle.qa_base.specs.declared.line_kind.LineKind.TheVariants as kinds
-use Rattle.qa_base.specs.values.Names.{line_kind_name, role_name, unit_name, controller_name, loss_by_number_name, version_number}
+use Rattle.qa_base.specs.values.Names.{line_kind_name, role_name, unit_name, controller_name, loss_by_number_name, threshold_counts_name, version_number}
 use Rattle.qa_base.specs.values.Settings.{Settings}
 use Rattle.qa_format.specs.format.Written.{Pairs, members, string, integer, boolean, option_pairs, in_three, limit_pairs}
 use Rattle.qa_trace.specs.Members.{with, with_settings, with_options, with_unit_and_choices}
@@ -24,13 +24,14 @@ pairs_of s version limit =
     (key.Event, string (line_kind_name kinds.Header))
     ∷ (key.InitialRtt, integer s.initial_rtt)
     ∷ (key.InitialWindow, integer s.initial_window)
-    ∷ in_three version ((key.LossByNumber, string (loss_by_number_name s.options.loss_by_number)) ∷ [])
+    ∷ in_three version ((key.LatestRttLessDelay, boolean s.options.latest_rtt_less_delay) ∷ (key.LossByNumber, string (loss_by_number_name s.options.loss_by_number)) ∷ [])
     ++ (key.MaxAckDelay, integer s.max_ack_delay)
     ∷ (key.MaxDatagramSize, integer s.max_datagram_size)
-    ∷ in_three version ((key.PacketThreshold, integer s.options.packet_threshold) ∷ [])
+    ∷ in_three version ((key.PacketThreshold, integer s.options.packet_threshold) ∷ (key.RecoveryByOrder, boolean s.options.recovery_by_order) ∷ [])
     ++ option_pairs version s.options
+    ++ in_three version ((key.ResetRtt, boolean s.options.reset_rtt) ∷ [])
     ++ (key.Role, string (role_name s.role))
-    ∷ in_three version ((key.SampleElicitingOnly, boolean s.options.sample_eliciting_only) ∷ (key.TimerEarlyUs, integer s.options.timer_early_us) ∷ [])
+    ∷ in_three version ((key.SampleElicitingOnly, boolean s.options.sample_eliciting_only) ∷ (key.ThresholdCounts, string (threshold_counts_name s.options.threshold_counts)) ∷ (key.TimeThresholdEighths, integer s.options.time_threshold_eighths) ∷ (key.TimerEarlyUs, integer s.options.timer_early_us) ∷ [])
     ++ limit_pairs limit
     ++ in_three version ((key.Unit, string (unit_name s.unit)) ∷ [])
     ++ (key.Version, integer (version_number version))

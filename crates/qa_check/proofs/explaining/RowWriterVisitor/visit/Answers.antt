@@ -1,5 +1,4 @@
 use Rattle.std.proofs.lemmas.Result.{on_ok_weaker}
-use Rattle.qa_check.specs.Standing.{by}
 use Rattle.qa_check.proofs.Tells.{if_err_weaker, line_begun, line_written, unwritten_line}
 use Rattle.qa_format.specs.verdicts.Explain.{row_said}
 use Rattle.qa_check.proofs.explaining.RowWriterVisitor.visit.Goals as goal

@@ -1,10 +1,6 @@
 use Rattle.qa_explain.specs.text.Facts.{facts_text}
 use Rattle.qa_explain.proofs.text.facts.push_facts.Goals as goal
 
-pub returns-in-LossNotOwed : goal.returns-in-LossNotOwed
-unfolding facts_text
-returns-in-LossNotOwed c = rw c.in-LossNotOwed.is c.push_nameable.ensures
-
 pub returns-in-NumberNotHigher : goal.returns-in-NumberNotHigher
 unfolding facts_text
 returns-in-NumberNotHigher c = rw c.in-NumberNotHigher.is c.push_greatest.ensures

@@ -1,12 +1,11 @@
-use Rattle.std.proofs.Common.{◌≡◌, ◌∙◌, ℕ, [], ◌∷◌, ◌==◌, length, not, true, false, Some, refl, sym, ap, subst, fold, arith}
+use Rattle.std.proofs.Common.{◌≡◌, ◌∙◌, ℕ, [], ◌∷◌, ◌==◌, length, not, true, false, Some, refl, sym, ap, subst, arith}
 use Rattle.qa_base.specs.declared.event.Event.TheVariants.{Ack}
 use Rattle.qa_base.specs.machine.Packets.{acknowledges_new}
 use Rattle.qa_base.specs.values.Settings.{AreInRange}
 use Rattle.qa_sender.specs.connection.Known.{acknowledged_by}
 use Rattle.qa_sender.proofs.connection_lemmas.OneMore.{acked_is, acked_measured, acked_old}
-use Rattle.qa_sender.proofs.connection_lemmas.Detections.{acked_detected, acked_undetected}
+use Rattle.qa_sender.proofs.connection_lemmas.Detections.{acked_detected, acked_undetected, detected_as, mark_is}
 use Rattle.qa_sender.proofs.connection_lemmas.Told.{new_is}
-use Rattle.qa_sender.specs.connection.Reporting.{with_bytes}
 use Rattle.qa_base.specs.machine.Reno.{reno}
 use Rattle.qa_sender.specs.connection.Changes.{grown, with_sample}
 use Rattle.qa_sender.proofs.Acks.{none_by_length, sent_still}
@@ -47,14 +46,16 @@ returns-clause-ok c = λ k h stands run.
     c.greatest-largest.result c.greatest-largest.ensures c.acknowledge.ensures ps are sampled_is in
     let at_time : StandsOnceFound c.cover.new.packets k (e ∷ h) c.args.ack.now.space c.args.ack.now.time = λ new l late is. stands_acknowledged k h _ run.run some l late old.packets c.cover.new.packets new stands.packets (rw c.as_slice-ranges.ensures at c.in_ok-acknowledged.ensures.ok) is in
     let once : StandsOnceFound c.cover.new.packets k (e ∷ h) c.args.ack.now.space c.get-2.result = subst (λ (now : ℕ). StandsOnceFound c.cover.new.packets k (e ∷ h) c.args.ack.now.space now) (sym c.get-2.ensures.value) at_time in
-    let lost = c.find_losses.ensures.connection k (e ∷ h) run.run (λ p. refl) measured once in
+    let far = c.far_end-far_end.ensures k (e ∷ h) run.run measured (sent_still old.numbers e h refl stands.numbers) in
+    let lost = c.find_losses.ensures.connection k (e ∷ h) run.run (λ p. refl) measured far once in
     let long = run.few in
     let before : c.sample.new.self.reno ≡ reno k h = rw (sampled_is, c.acknowledge.ensures) stands.connection.parts.reno in
-    let detected = ap Some (c.detected-detection.ensures ∙ ap (λ qs. record { space = c.args.ack.now.space; looked = c.get.result; time = c.args.ack.now.time; before = c.sample.new.self.reno; acknowledged = fold with_bytes 0 qs }) c.deref-2.ensures.value
-    ∙ ap (λ n. record { space = c.args.ack.now.space; looked = n; time = c.args.ack.now.time; before = c.sample.new.self.reno; acknowledged = fold with_bytes 0 ps }) c.get.ensures.value)
-    ∙ acked_detected k h c.args.ack.now c.sample.new.self.reno ps before are some run.fit.1 (omega (arith, long)) in
+    let mark = c.mark-mark.ensures ∙ mark_is k e h old.connection stands.connection.parts.header stands.connection.events run.few in
+    let detected = ap Some c.detected-detection.ensures
+    ∙ detected_as c.args.ack.now.space c.get.result c.args.ack.now.time c.mark-mark.result c.sample.new.self.rtt c.sample.new.self.reno c.far_end-far_end.result _ ps c.get.ensures.value c.deref-2.ensures.value
+    ∙ acked_detected k h c.args.ack.now c.mark-mark.result c.sample.new.self.rtt c.sample.new.self.reno ps c.far_end-far_end.result mark measured.rtt before far are some run.fit.1 (omega (arith, long)) in
     c.finish-2.ensures k e h refl detected run (rw (c.restart.ensures, grown_is, lost, sampled_is, c.acknowledge.ensures) stands.connection.events)
     (acked_is k h _ old.connection c.acknowledge.new.self c.sample.new.self c.find_losses.new.self.connection c.grow.new.self c.restart.new.self
-    stands.connection.parts run (subst AreInRange measured.header c.find_losses.ensures.range) c.greatest-largest.result c.greatest-largest.ensures c.acknowledge.ensures ps are some sampled_is lost grown_is c.restart.ensures)
-    (rw c.take_back-2.ensures (c.find_losses.ensures.packets k (e ∷ h) measured once))
+    stands.connection.parts run (subst AreInRange measured.header c.find_losses.ensures.range) c.greatest-largest.result c.greatest-largest.ensures c.acknowledge.ensures ps are some sampled_is c.mark-mark.result mark lost grown_is c.restart.ensures)
+    (rw c.take_back-2.ensures (c.find_losses.ensures.packets k (e ∷ h) measured far once))
     (rw c.find_losses.ensures.numbers (sent_still old.numbers e h refl stands.numbers)) (rw c.find_losses.ensures.watch stands.watch)

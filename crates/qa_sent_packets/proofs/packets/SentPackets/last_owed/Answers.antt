@@ -10,11 +10,11 @@ pub returns : goal.returns
 returns c =
     let part = c.owed_part.result in
     c.last_owed_in.ensures
-    ∙ (ap (λ (h : Held). last_owed None (slice_range h.packets part.start part.end)) c.self.view_is
-    ∙ sym (last_of_part c.args.self.now.packets part.start part.end c.owed_part.ensures))
+    ∙ (ap (λ (h : Held). last_owed c.args.by_order None (slice_range h.packets part.start part.end)) c.self.view_is
+    ∙ sym (last_of_part c.args.by_order c.args.self.now.packets part.start part.end c.owed_part.ensures))
 
 pub returns-then-self-eq0 : goal.returns-then-self-eq0
 returns-then-self-eq0 c =
     let ps = c.self.inside.queue.packets.items in
     let none : count_by (λ p. is_owed p.fate) ps ≡ 0 = sym c.self.invariant.owed.count ∙ c.if-self-eq0.true in
-    last_of_none ps none ∙ ap (λ (h : Held). last_owed None h.packets) c.self.view_is
+    last_of_none c.args.by_order ps none ∙ ap (λ (h : Held). last_owed c.args.by_order None h.packets) c.self.view_is

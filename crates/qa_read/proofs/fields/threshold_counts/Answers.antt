@@ -1,0 +1,6 @@
+use Rattle.std.proofs.Common.{refl}
+use Rattle.qa_read.proofs.fields.threshold_counts.Goals as goal
+
+-- Written out, so that a wrong body is refused at this line.
+pub returns-in-None : goal.returns-in-None
+returns-in-None c = rw (← c.in-None.ensures) refl
