@@ -22,6 +22,20 @@ INSTRUCTIONS = {
     "ngtcp2-reno-loss": 1_900,
     "quinn-loss": 1_900,
 }
+# Of a line of `steady` and `mixed`, and of one of `32-ranges`, by the name of its form.
+OF_FORMS = {
+    "spaces": (1_900, 2_500),
+    "time-first": (1_900, 2_500),
+    "shuffled": (1_900, 2_500),
+    "crlf": (1_900, 2_500),
+    "unknown": (2_000, 2_700),
+    "numbers": (2_000, 2_700),
+    "nested": (2_000, 2_700),
+    "escapes": (2_000, 2_700),
+    "utf-8": (2_000, 2_700),
+    "nulls": (2_500, 3_200),
+    "slog": (2_500, 3_200),
+}
 # Of an event that is handed to the library for C as a struct.
 NANOSECONDS_OF_AN_EVENT = 100
 QUICK_FORMS = ("sorted", "format")

@@ -6,7 +6,7 @@ from typing import NamedTuple
 
 from comparing import PACKETS
 from connections import AS_WRITTEN, CONNECTIONS, Connection
-from forms import FORMAT, FORMS, Form
+from forms import FORMAT, FORMS, SORTED, Form
 from shapes import COMPARED, SHAPES, UNACKNOWLEDGED, Shape
 from traces import Trace, repeated, written
 
@@ -55,4 +55,4 @@ def compared(names: list[str], least: int) -> Iterator[Kind]:
         else:
             yield from (Kind(name, form, form.name, least) for form in FORMS)
     if UNACKNOWLEDGED.name in names:
-        yield Kind(UNACKNOWLEDGED.name, FORMS[0], FORMS[0].name, PACKETS)
+        yield Kind(UNACKNOWLEDGED.name, SORTED, SORTED.name, PACKETS)

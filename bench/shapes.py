@@ -110,6 +110,22 @@ def not_in_flight(log: Log) -> Iterator[Round]:
         yield [log.sent(number, template=SENT_ALONE)]
 
 
+def half_open(log: Log) -> Iterator[Round]:
+    """Every second packet only acknowledges, is lost, and so stays open to the end."""
+    for number in itertools.count(FIRST_NUMBER, 2):
+        alone = log.sent(number, template=SENT_ALONE)
+        yield [alone, log.sent(number + 1), log.ack([(number + 1, number + 1)])]
+
+
+def lost_acks(log: Log) -> Iterator[Round]:
+    """Of each nine packets one only acknowledges and is lost. Those behind it are acknowledged."""
+    for number in itertools.count(FIRST_NUMBER, 9):
+        lines = [log.sent(number, template=SENT_ALONE)]
+        for at in range(number + 1, number + 9, 2):
+            lines += [log.sent(at), log.sent(at + 1), log.ack([(number + 1, at + 1)])]
+        yield lines
+
+
 def many_ranges(log: Log) -> Iterator[Round]:
     """Every second packet is lost, so that an acknowledgment names 32 ranges of one packet."""
     named: deque[Span] = deque(maxlen=RANGES)
@@ -369,6 +385,8 @@ SHAPES = (
     Shape("one-open", one_open),
     UNACKNOWLEDGED,
     Shape("not-in-flight", not_in_flight),
+    Shape("half-open", half_open),
+    Shape("lost-acks", lost_acks),
     MANY_RANGES,
     Shape("skipped", skipped),
     Shape("lost", lost),

@@ -2,6 +2,7 @@
 """Shows that the traces of the bench are what they are to be, that the programs which only read
 refuse what is not in the format, and that the tables and aims say what was measured."""
 
+import argparse
 import contextlib
 import io
 import json
@@ -16,11 +17,11 @@ from typing import Any
 import conformance_path  # noqa: F401
 import connections
 import sender
-from aims import AIMS, Aim, said_of
+from aims import AIMS, OF_FORMS, Aim, said_of
 from comparing import AUDITOR, PACKETS, PEER, Row, clock, processor
 from connections import AS_WRITTEN, CONNECTIONS
 from constants import METRICS
-from forms import FORMAT, FORMS, Form
+from forms import ALL_FORMS, FORMAT, FORMS, Form
 from kinds import FOREIGN, NAMES_COMPARED, compared
 from readers import MissingError, WrongAnswerError, auditor, python, ran, serde
 from shapes import (
@@ -50,7 +51,7 @@ ORDER = (
     "number", "size", "eliciting", "in_flight", "leave", "ranges", "delay", "limited", *METRICS,
 )
 # fmt: on
-UNKNOWN = ("note", "serial")
+UNKNOWN = ("note", "serial", "level", "msg", "source")
 
 
 peers = script(Path(__file__).resolve().parent / "peers")
@@ -66,8 +67,9 @@ def lines_of(shape: Shape, form: Form, least: int = EVENTS) -> list[bytes]:
 
 
 def known(line: bytes) -> dict[str, Any]:
-    """What a line says, without the keys that the format does not know."""
-    return {key: value for key, value in json.loads(line).items() if key not in UNKNOWN}
+    """What a line says, without the keys that the format does not know and those that are null."""
+    said = json.loads(line).items()
+    return {key: value for key, value in said if key not in UNKNOWN and value is not None}
 
 
 class Traces(unittest.TestCase):
@@ -76,7 +78,7 @@ class Traces(unittest.TestCase):
     def test_forms_say_the_same(self) -> None:
         for shape in ALL_SHAPES:
             said = [known(line) for line in lines_of(shape, FORMAT)]
-            for form in FORMS:
+            for form in ALL_FORMS:
                 self.assertEqual(
                     [known(line) for line in lines_of(shape, form)], said, (shape.name, form.name)
                 )
@@ -110,9 +112,37 @@ class Traces(unittest.TestCase):
                 ]
                 self.assertEqual([len(keys) for keys in unknown], [1] * len(unknown))
                 self.assertTrue(
-                    len(unknown) < 4 or {key for keys in unknown for key in keys} == set(UNKNOWN),
+                    len(unknown) < 4
+                    or {key for keys in unknown for key in keys} == {"note", "serial"},
                     kind,
                 )
+
+    def test_how_other_loggers_write(self) -> None:
+        by_form = {form.name: lines_of(COMPARED[0], form) for form in ALL_FORMS}
+        for line in by_form["time-first"][1:]:
+            self.assertTrue(line.startswith(b'{"time":'), line)
+        orders = {tuple(json.loads(line)) for line in by_form["shuffled"] if b'"sent"' in line}
+        self.assertGreater(len(orders), 3)
+        for line in by_form["crlf"]:
+            self.assertTrue(line.endswith(b"}\r\n"), line)
+        for line in by_form["nulls"]:
+            said = json.loads(line)
+            if said["event"] in ("sent", "ack"):
+                self.assertTrue({"leave"} <= set(said) or {"delay", "limited"} <= set(said), line)
+        kinds = {
+            "numbers": {float, int},
+            "nested": {dict},
+            "escapes": {str},
+            "utf-8": {str},
+        }
+        for name, wanted in kinds.items():
+            values = [json.loads(line) for line in by_form[name]]
+            got = {type(it[key]) for it in values for key in ("note", "serial") if key in it}
+            self.assertEqual(got, wanted, name)
+        self.assertTrue(all(b"\\" in line for line in by_form["escapes"]))
+        self.assertFalse(any(line.isascii() for line in by_form["utf-8"]))
+        for line in by_form["slog"]:
+            self.assertEqual(list(json.loads(line))[:3], ["level", "msg", "source"])
 
     def test_sizes(self) -> None:
         for shape in (*SHAPES, *COMPARED):
@@ -324,7 +354,8 @@ class Instructions(unittest.TestCase):
         program.chmod(0o755)
         path = f"{folder}{os.pathsep}{os.environ['PATH']}"
         with unittest.mock.patch.dict(os.environ, {"PATH": path}):
-            row: str = instructions.row("/program", PLAIN.name, FORMAT, 3, str(folder))
+            given = argparse.Namespace(program="/program", form=FORMAT.name, lines=3)
+            row: str = instructions.row_of_shape(given, PLAIN.name, str(folder))
         return row
 
     def test_rows(self) -> None:
@@ -343,6 +374,15 @@ class Instructions(unittest.TestCase):
         self.assertEqual((given.lines, given.form, given.shape), (20_000, "sorted", None))
         given = instructions.parsed(["--form", "spaces", "--shape", "lost", sys.executable])
         self.assertEqual((given.form, given.shape), ("spaces", ["lost"]))
+        self.assertTrue(instructions.parsed(["--forms", sys.executable]).forms)
+
+    def test_aims_of_forms(self) -> None:
+        self.assertEqual(instructions.aim_of("steady", FORMAT), 1_300)
+        by_name = {it.name: it for it in ALL_FORMS}
+        self.assertEqual(instructions.aim_of("mixed", by_name["crlf"]), 1_900)
+        self.assertEqual(instructions.aim_of("32-ranges", by_name["nested"]), 2_700)
+        self.assertIsNone(instructions.aim_of("receiver", by_name["nulls"]))
+        self.assertEqual(set(OF_FORMS), {it.name for it in ALL_FORMS} - {"sorted", "format"})
 
 
 class Arguments(unittest.TestCase):
