@@ -200,7 +200,8 @@ def of_early(amounts: Amounts) -> Facts:
     if amounts.said["counts_from"] == "packet":
         packet = f"packet {amounts.number('packet')} of {amounts.said['set_space']} was sent"
         greater = max(("latest_rtt", "smoothed_rtt"), key=amounts.time)
-        basis = f"9/8 of {greater} {amounts.shown(greater)}"
+        eighths = amounts.number("time_threshold_eighths")
+        basis = f"{eighths}/8 of {greater} {amounts.shown(greater)}"
         return [*told, ("counted from", f"when {packet}"), ("loss delay", basis)]
     since_what = {
         "ack-eliciting packet": f"the last ack-eliciting packet of {amounts.said['set_space']}",

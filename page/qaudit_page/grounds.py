@@ -21,7 +21,11 @@ CHOICES = {
     "sample_eliciting_only": "RTT samples of ack-eliciting packets only, against RFC 9002, 5.1",
     "packet_threshold": "a packet threshold of {}; RFC 9002, 6.1.1 recommends 3",
     "loss_by_number": "packets past the packet threshold may be spared (RFC 9002, 6.1.1)",
+    "threshold_counts": "the packet threshold counts packets that were sent (RFC 9002, 6.1.1)",
+    "reset_rtt": "persistent congestion resets the RTT, as RFC 9002, 5.2 lets a sender do",
     "latest_rtt_less_delay": "the delay is taken off latest_rtt, against RFC 9002, 5.1",
+    "time_threshold_eighths": "a time threshold of {}/8; RFC 9002, 6.1.2 recommends 9/8",
+    "recovery_by_order": "recovery goes by the order of the lines (RFC 9002, 7.3.2)",
 }
 DEVIATING = frozenset(("sample_eliciting_only", "latest_rtt_less_delay"))
 

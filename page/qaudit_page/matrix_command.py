@@ -1,13 +1,11 @@
 """The command qaudit-matrix."""
 
 import argparse
-import multiprocessing
 import os
 import re
 import sys
 from collections import Counter
 from collections.abc import Iterable, Iterator
-from concurrent.futures import ProcessPoolExecutor
 from concurrent.futures.process import BrokenProcessPool
 from pathlib import Path
 from typing import NoReturn
@@ -37,7 +35,7 @@ from .matrix import (
     unclear_note,
 )
 from .program import find
-from .streams import ended, follow
+from .streams import ended, workers_of
 from .texts import plural, visible
 
 DESCRIPTION = """\
@@ -146,6 +144,11 @@ def shown(results: Iterable[Result], total: int) -> Iterator[Result]:
             print(file=sys.stderr)
 
 
+def all_judged(jobs: list[Job]) -> list[Result]:
+    """What became of some traces."""
+    return [judged(job) for job in jobs]
+
+
 def results_of(given: argparse.Namespace) -> list[Result]:
     """What became of each trace."""
     find(given.program)
@@ -161,17 +164,16 @@ def results_of(given: argparse.Namespace) -> list[Result]:
         raise Failure("there is no trace: no file in the directories ends in .trace")
     pieces = max(1, min(8, len(jobs) // 40))
     count = workers(given.jobs, len(jobs))
-    pool = ProcessPoolExecutor(count, initializer=follow, initargs=(os.getpid(),))
     try:
-        return list(shown(pool.map(judged, jobs, chunksize=pieces), len(jobs)))
-    except KeyboardInterrupt:
-        for worker in multiprocessing.active_children():
-            worker.kill()
-        raise
+        with workers_of(count) as pool:
+            # Not by `pool.map`, which cancels what is left while a thread may be setting it.
+            parts = [
+                pool.submit(all_judged, jobs[first : first + pieces])
+                for first in range(0, len(jobs), pieces)
+            ]
+            return list(shown((it for part in parts for it in part.result()), len(jobs)))
     except BrokenProcessPool as fault:
         raise Failure("a process of the audit was killed: is there memory enough?") from fault
-    finally:
-        pool.shutdown(cancel_futures=True)
 
 
 def status_of(

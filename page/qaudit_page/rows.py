@@ -1,20 +1,18 @@
 """The rows that qaudit-why writes of a trace, as columns."""
 
 import json
-import os
 from collections import deque
 from collections.abc import Callable, Iterable, Iterator
-from concurrent.futures import Future, ProcessPoolExecutor
+from concurrent.futures import Future
 from concurrent.futures.process import BrokenProcessPool
 from dataclasses import dataclass, field
 from itertools import islice
-from multiprocessing import get_context
 from operator import itemgetter
 
 from .failure import Failure
 from .lenient import SPACES, Event
 from .program import Object, Run
-from .streams import follow
+from .streams import workers_of
 from .texts import runs
 
 NO_SPACE = 3
@@ -112,8 +110,7 @@ def rows_by(run: Run, readers: int) -> Iterator[Rows]:
         second = next(pieces, None)
         if second is None:
             return
-        fork, mine = get_context("fork"), (os.getpid(),)
-        with ProcessPoolExecutor(readers, fork, initializer=follow, initargs=mine) as pool:
+        with workers_of(readers) as pool:
             yield read(second)
             yield from ahead(lambda piece: pool.submit(read, piece), pieces)
     except (BrokenProcessPool, OSError) as fault:

@@ -4,10 +4,13 @@ end."""
 import ctypes
 import errno
 import io
+import multiprocessing
 import os
 import signal
 import sys
-from collections.abc import Callable
+from collections.abc import Callable, Iterator
+from concurrent.futures import ProcessPoolExecutor
+from contextlib import contextmanager
 from typing import TextIO
 
 from .failure import Failure, Status
@@ -74,13 +77,49 @@ def fill_closed() -> None:
             return
 
 
+@contextmanager
+def without_interrupts() -> Iterator[None]:
+    """Ctrl-C waits until this ends. The threads and processes that are started in it begin so."""
+    before = signal.pthread_sigmask(signal.SIG_BLOCK, {signal.SIGINT})
+    try:
+        yield
+    finally:
+        signal.pthread_sigmask(signal.SIG_SETMASK, before)
+
+
+def wait_for_the_end(*_: object) -> None:
+    """What Ctrl-C does to a process that works for another: that one is told too, and kills it."""
+    while True:
+        signal.pause()
+
+
 def follow(parent: int) -> None:
     """What a process does first that another has started to work for it: it ends when that one
-    does, however that may be, and at once by Ctrl-C."""
-    signal.signal(signal.SIGINT, signal.SIG_DFL)
+    does, however that may be."""
+    signal.signal(signal.SIGINT, wait_for_the_end)
     ctypes.CDLL(None).prctl(PR_SET_PDEATHSIG, signal.SIGKILL)
     if os.getppid() != parent:
         os._exit(Status.FAULT)
+    signal.pthread_sigmask(signal.SIG_UNBLOCK, {signal.SIGINT})
+
+
+@contextmanager
+def workers_of(count: int) -> Iterator[ProcessPoolExecutor]:
+    """So many processes that work for this one. If something ends this before its time, they are
+    killed."""
+    fork = multiprocessing.get_context("fork")
+    pool = ProcessPoolExecutor(count, fork, initializer=follow, initargs=(os.getpid(),))
+    try:
+        with without_interrupts():
+            # The first piece of work starts all of them.
+            pool.submit(os.getpid)
+        yield pool
+    except BaseException:
+        for worker in multiprocessing.active_children():
+            worker.kill()
+        raise
+    finally:
+        pool.shutdown(cancel_futures=True)
 
 
 def ended(name: str, main: Callable[[], Status]) -> object:

@@ -9,7 +9,10 @@ NANOSECONDS_IN_A_MILLISECOND = 1_000_000
 NANOSECONDS_IN_A_SECOND = 1_000_000_000
 SHOWN_RUNS = 16
 # What Python calls printable and nobody sees: fillers, selectors of variations, tags.
-UNSEEN = re.compile("[\u034f\u115f\u1160\u17b4\u17b5\u180b-\u180f\u2800\u3164\ufe00-\ufe0f\uffa0]")
+UNSEEN = re.compile(
+    "[\u034f\u115f\u1160\u17b4\u17b5\u180b-\u180f\u2800\u3164\ufe00-\ufe0f\uffa0"
+    "\U000e0100-\U000e01ef]"
+)
 
 Ranges = list[list[int]]
 

@@ -30,7 +30,7 @@ REAL = TRACES.parent / "real" / "traces"
 FOLLOWED = "In everything that the trace shows, the sender followed RFC 9002."
 EVIL = "<img src=x onerror=window.pwned=1>&\u202e"
 # The choices that RFC 9002 does not leave to a sender, by docs/format.md.
-DEVIATING = {"sample_eliciting_only"}
+DEVIATING = {"sample_eliciting_only", "latest_rtt_less_delay"}
 # After 80 ms, 20 + 4 * 10 + 20, the probe timeout of a packet that is sent at 0 is over.
 TIMED = (
     '{"event":"header","version":1,"role":"server","max_datagram_size":1200,'
@@ -202,6 +202,11 @@ class Colours(unittest.TestCase):
             ({"packet_threshold": 4}, "accepted"),
             ({"window": "reported", "loss_by_number": "may"}, "accepted"),
             ({"sample_eliciting_only": True}, "amber"),
+            ({"threshold_counts": "packets"}, "accepted"),
+            ({"reset_rtt": True}, "accepted"),
+            ({"latest_rtt_less_delay": True}, "amber"),
+            ({"time_threshold_eighths": 10}, "accepted"),
+            ({"recovery_by_order": True}, "accepted"),
             ({"window_overshoot": True}, "accepted"),
         )
         for choice, kind in choices:
@@ -213,7 +218,7 @@ class Colours(unittest.TestCase):
 
     def test_a_choice_that_is_not_known_yet(self) -> None:
         said = {"verdict": "accepted", "events": 1, "allowed": [], "guesses": None, "last": None}
-        for key, is_amber in (("latest_rtt_less_delay", True), ("reset_rtt", False)):
+        for key, is_amber in (("latest_rtt_less_delay", True), ("a_later_choice", False)):
             found = basis_of(Verdict(said | {"choices": [key]}), {}, 1, lambda _: True)
             self.assertEqual((found.names, found.is_amber), ([key], is_amber))
 

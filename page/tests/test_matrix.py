@@ -236,10 +236,12 @@ class Tables(unittest.TestCase):
         (self.traces / "as-late-as-its-timeout.trace").write_bytes(LATE)
         (self.traces / "less-late.trace").write_bytes(SHORTLY_LATE)
         choices = ["refresh_min_rtt", "window", "sample_eliciting_only", "packet_threshold"]
+        later = ["loss_by_number", "threshold_counts", "reset_rtt"]
+        later += ["latest_rtt_less_delay", "time_threshold_eighths", "recovery_by_order"]
         wanted = {
             "as-late-as-its-timeout": (True, ["V18"]),
             "broken-and-allowed": (False, []),
-            "each-choice": (True, [*choices, "loss_by_number"]),
+            "each-choice": (True, [*choices, *later]),
             "guessed-and-accepted": (True, ["guesses"]),
             "late-since-confirmed": (False, ["V18"]),
             "less-late": (False, ["V18"]),

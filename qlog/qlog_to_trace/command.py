@@ -8,7 +8,7 @@ import signal
 import sys
 import tempfile
 from collections.abc import Iterator, Sequence
-from dataclasses import dataclass
+from dataclasses import dataclass, replace
 from pathlib import Path
 from typing import IO, BinaryIO, TextIO
 
@@ -21,7 +21,7 @@ from .dialects import BY_NAME, DIALECTS, GENERIC, Dialect, dialect_of
 from .errors import Unusable
 from .events import Event, events_of
 from .forms import Form
-from .header import NO_LIMIT, Choices, options_of, write_header
+from .header import DEFAULT_EIGHTHS, NO_LIMIT, Choices, options_of, write_header
 from .lines import Line, Lines
 from .looking import order_of
 from .notes import Notes
@@ -46,7 +46,10 @@ LONGEST_LINE = 65_536
 # How many characters a line on standard error has at most.
 MOST_TOLD = 4_000
 # What Python calls printable and nobody sees: fillers and selectors of variations.
-UNSEEN = re.compile("[\u034f\u115f\u1160\u17b4\u17b5\u180b-\u180f\u2800\u3164\ufe00-\ufe0f\uffa0]")
+UNSEEN = re.compile(
+    "[\u034f\u115f\u1160\u17b4\u17b5\u180b-\u180f\u2800\u3164\ufe00-\ufe0f\uffa0"
+    "\U000e0100-\U000e01ef]"
+)
 ENCODER = json.JSONEncoder(separators=(",", ":"))
 
 DESCRIPTION = """Turns the qlog of one QUIC connection into a trace that `qaudit check` reads.
@@ -187,6 +190,11 @@ KEYS = (
     Key("--packet-threshold", "packet_threshold", 3, numbers=range(3, 65_536)),
     Key("--timer-early-us", "timer_early_us", 3, numbers=range(10**9 + 1)),
     Key("--loss-by-number", "loss_by_number", 3, ("must", "may")),
+    Key("--threshold-counts", "threshold_counts", 3, ("numbers", "packets")),
+    Key("--reset-rtt", "reset_rtt", 3),
+    Key("--latest-rtt-less-delay", "latest_rtt_less_delay", 3),
+    Key("--time-threshold-eighths", "time_threshold_eighths", 3, numbers=range(9, 33)),
+    Key("--recovery-by-order", "recovery_by_order", 3),
 )
 
 
@@ -320,6 +328,8 @@ class Converter:
         options = options_of(dialect, survey, choices, self.notes)
         lines = Lines(self._write, self.notes, options.get("unit", "us"))
         size = write_header(lines, self.notes, self._role, dialect, survey, options)
+        eighths = options.get("time_threshold_eighths", DEFAULT_EIGHTHS)
+        dialect = replace(dialect, time_threshold_eighths=eighths)
         conversion = Conversion(dialect, self._role, survey, lines, self.notes, size)
         conversion.is_window_reported = options.get("window") == "reported"
         events = self._events("converted")

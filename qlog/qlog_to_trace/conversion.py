@@ -11,7 +11,7 @@ from .groups import Group, Groups, Kind
 from .handshake import Handshake
 from .lines import RTTS, Lines
 from .notes import Guess, Limit, Notes, Omission
-from .rounding import EARLIER, TIME_THRESHOLD, Age, Delays
+from .rounding import EARLIER, PARTS_OF_RTT, Age, Delays
 from .survey import Retry, Survey
 
 # RFC 9002, 6.1: kPacketThreshold, and 6.2.4: packets of a probe.
@@ -510,7 +510,7 @@ class Conversion:
             return event.time
         gone = {it.number for it in lost if it.name == "packet_lost" and it.space == space}
         for number, sent in self._flight.below(space, top):
-            age = Age(event.time - sent, rtt)
+            age = Age(event.time - sent, rtt, self._dialect.time_threshold_eighths)
             if age.is_young:
                 break
             if age.is_open and number not in gone:
@@ -572,10 +572,10 @@ class Conversion:
         values = beside[-1].metrics() if beside else {}
         rtt = max(values.get("latest_rtt", 0), values.get("smoothed_rtt", 0))
         space = str(lost[0].space)
-        times, part = TIME_THRESHOLD
+        parts = self._dialect.time_threshold_eighths * rtt
         return any(
             number + PACKET_THRESHOLD <= top
-            or part * (received.time - self._flight.time_of(space, number)) >= times * rtt
+            or PARTS_OF_RTT * (received.time - self._flight.time_of(space, number)) >= parts
             for number in numbers
         )
 
@@ -637,8 +637,9 @@ class Conversion:
         rtt = max(self._metrics.get("latest_rtt", 0), self._metrics.get("smoothed_rtt", 0))
         sent = self._flight.time_of(str(lost.space), lost.number)
         if rtt and sent:
-            age, (times, part) = lost.time - sent, TIME_THRESHOLD
-            is_late = age > rtt * LATE_BY_TIME and part * (age - LATE_BY_PROGRAM) > times * rtt
+            age, parts = lost.time - sent, self._dialect.time_threshold_eighths * rtt
+            is_past = PARTS_OF_RTT * (age - LATE_BY_PROGRAM) > parts
+            is_late = age > rtt * LATE_BY_TIME and is_past
             self._are_timers_late = is_late and self._are_timers_late is not False
 
     def _space_of_timer(self, event: Event, kind: str, lost: list[Event]) -> str:

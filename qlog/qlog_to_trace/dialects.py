@@ -5,7 +5,6 @@ A new stack is one more entry of DIALECTS. The one named `generic` is for all ot
 
 from dataclasses import dataclass, replace
 from enum import Enum
-from fractions import Fraction
 from typing import Any
 
 MICROSECONDS_OF_INITIAL_RTT = 333_000
@@ -94,8 +93,16 @@ class Dialect:
     window_overshoot: bool = False
     sample_eliciting_only: bool = False
     packet_threshold: int = 3
-    # Where it is another than that of the RFC (6.1.2), for which traces have no key.
-    time_threshold: Fraction | None = None
+    # Whether persistent congestion may reset the estimate of the round-trip time. It does where the
+    # log shows the values of before the first sample again.
+    may_reset_rtt: bool = False
+    # The latest round-trip time is kept less the peer's delay.
+    latest_rtt_less_delay: bool = False
+    # A loss and the packet that is sent after it have one time, so that the order tells them apart.
+    # In a log of whole milliseconds they often have.
+    recovery_by_order: bool = False
+    # In eighths of the round-trip time.
+    time_threshold_eighths: int = 9
     # Whether a packet so many numbers behind may be spared, as where the threshold adapts.
     # Said only where the window is a reported one.
     may_spare: bool = False
@@ -128,6 +135,7 @@ QUIC_GO = Dialect(
     slack_us=1_000,
     window_overshoot=True,
     sample_eliciting_only=True,
+    latest_rtt_less_delay=True,
     timer_early_us=3_000,
 )
 
@@ -171,7 +179,8 @@ DIALECTS = (
     ),
     # 0.12: JSON-SEQ, 0.3, all times in whole ms, rounded down. No timers and no keys. Metrics have
     # all values. The delay of Initial and Handshake acknowledgments is logged as 0. The packet
-    # threshold is the greater of 3 and half of the packets in flight.
+    # threshold is the greater of 3 and half of the packets in flight. Since 1.11 persistent
+    # congestion resets the RTT.
     Dialect(
         "ngtcp2",
         ("ngtcp2",),
@@ -185,6 +194,7 @@ DIALECTS = (
         unit="us",
         window_overshoot=True,
         sample_eliciting_only=True,
+        may_reset_rtt=True,
         may_spare=True,
         timer_early_us=3_000,
     ),
@@ -206,6 +216,7 @@ DIALECTS = (
         slack_us=1_000,
         slack_bytes=64,
         unit="us",
+        latest_rtt_less_delay=True,
         timer_early_us=1_000,
     ),
     OPENSSL,
@@ -222,6 +233,8 @@ DIALECTS = (
         delay_is_encoded=True,
         logs_timers=True,
         slack_us=1_000,
+        latest_rtt_less_delay=True,
+        recovery_by_order=True,
         timer_early_us=1_000,
     ),
     # The netlog of Chromium 156 (Google quiche): no window, no metrics, no timers. CUBIC. Packets
@@ -238,7 +251,7 @@ DIALECTS = (
         limited=Limited.NEVER,
         unit="us",
         may_spare=True,
-        time_threshold=Fraction(5, 4),
+        time_threshold_eighths=10,
         timer_early_us=3_000,
     ),
     # By their documentation: JSON-SEQ of the Rust crate `qlog`, 0.3, times in ms with fractions;

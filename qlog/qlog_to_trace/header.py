@@ -16,9 +16,19 @@ from .validation import LEAST_DATAGRAM
 GREATEST_INITIAL_RTT = 10**12
 GREATEST_WINDOW = (1 << 32) - 1
 PACKET_THRESHOLDS = range(3, 65_536)
-# RFC 9002, 6.1.2, and how a log may round it.
-TIME_THRESHOLD = Fraction(9, 8)
+# The time threshold (RFC 9002, 6.1.2) in eighths of the round-trip time, that of a header that
+# names none, and how a log may round it.
+EIGHTHS = range(9, 33)
+DEFAULT_EIGHTHS = 9
 ROUNDING_OF_THRESHOLD = Fraction(1, 100)
+# Keys that a header has only for a sender that has another value.
+LEFT_OUT = {
+    "threshold_counts": "numbers",
+    "reset_rtt": False,
+    "latest_rtt_less_delay": False,
+    "time_threshold_eighths": DEFAULT_EIGHTHS,
+    "recovery_by_order": False,
+}
 # Of the keys `window` and `loss_by_number`.
 REPORTED = "reported"
 MAY = "may"
@@ -55,7 +65,6 @@ def options_of(dialect: Dialect, survey: Survey, choices: Choices, notes: Notes)
         }
     if choices.version >= 3:
         by_log = "ns" if survey.has_nanoseconds else "us"
-        may_spare = dialect.may_spare or (dialect.counts_packets and survey.has_skipped)
         # By which controller a sender has its window is its own choice (RFC 9002, section 7).
         has_window = survey.has_window or dialect.hides_window
         window = said.get("window", REPORTED if has_window else "newreno")
@@ -71,9 +80,30 @@ def options_of(dialect: Dialect, survey: Survey, choices: Choices, notes: Notes)
             "sample_eliciting_only": dialect.sample_eliciting_only,
             "packet_threshold": threshold,
             "timer_early_us": dialect.timer_early_us,
-            "loss_by_number": MAY if may_spare and window == REPORTED else "must",
+            "loss_by_number": MAY if dialect.may_spare and window == REPORTED else "must",
+            "threshold_counts": "packets" if dialect.counts_packets else "numbers",
+            "reset_rtt": survey.has_reset_rtt,
+            "latest_rtt_less_delay": dialect.latest_rtt_less_delay,
+            "time_threshold_eighths": eighths_of(survey, dialect),
+            "recovery_by_order": dialect.recovery_by_order or survey.has_milliseconds,
         }
-    return found | said
+    found |= said
+    return {key: value for key, value in found.items() if LEFT_OUT.get(key) != value}
+
+
+def eighths_of(survey: Survey, dialect: Dialect) -> int:
+    """The time threshold that the log says, if a header can say it, else that of the dialect."""
+    said = survey.time_threshold
+    if said is None:
+        return dialect.time_threshold_eighths
+    eighths = round(8 * said)
+    is_said = eighths in EIGHTHS and not is_other(said, eighths)
+    return eighths if is_said else dialect.time_threshold_eighths
+
+
+def is_other(threshold: Fraction, eighths: int) -> bool:
+    """Whether a time threshold is another than this many eighths, however a log rounds it."""
+    return abs(threshold - Fraction(eighths, 8)) > ROUNDING_OF_THRESHOLD
 
 
 def limit_of(dialect: Dialect, survey: Survey, notes: Notes) -> int | None:
@@ -158,11 +188,12 @@ def warn(dialect: Dialect, survey: Survey, options: dict[str, Any], notes: Notes
         notes.limits.add(Limit.MARKS)
     if survey.has_ack_frequency:
         notes.limits.add(Limit.ACK_FREQUENCY)
-    time_threshold = survey.time_threshold or dialect.time_threshold
-    if time_threshold and abs(time_threshold - TIME_THRESHOLD) > ROUNDING_OF_THRESHOLD:
+    time_threshold = survey.time_threshold or Fraction(dialect.time_threshold_eighths, 8)
+    eighths = options.get("time_threshold_eighths", DEFAULT_EIGHTHS)
+    if is_other(time_threshold, eighths):
         notes.warnings.append(
-            f"its time_threshold is {float(time_threshold):.4g}, and traces know only 9/8; losses"
-            " by time may be refused"
+            f"its time_threshold is {float(time_threshold):.4g}, and that of the header"
+            f" {eighths}/8; losses by time may be refused"
         )
 
 

@@ -69,8 +69,8 @@ class Limit(Enum):
         " probe timeouts may be refused"
     )
     TIME_THRESHOLD = (
-        "its loss timers fire later than at 9/8 of the round-trip time, the one time threshold that"
-        " traces have: losses by time may be refused"
+        "its loss timers fire later than at the time threshold of the header: losses by time may be"
+        " refused (--time-threshold-eighths)"
     )
     SAME_TICK = (
         "a packet is lost that was sent in the same tick in which a loss was declared before: by"

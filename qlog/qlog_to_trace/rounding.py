@@ -23,8 +23,8 @@ NEARER = MILLISECOND // 2
 EARLIER = MILLISECOND - NANOSECONDS["us"]
 # By how much a packet may be younger or older than the loss delay by the log, and be the other.
 YOUNGER, OLDER = MILLISECOND // 2, 3 * MILLISECOND
-# RFC 9002, 6.1.2: kTimeThreshold.
-TIME_THRESHOLD = (9, 8)
+# RFC 9002, 6.1.2: kTimeThreshold is in so many parts of the round-trip time.
+PARTS_OF_RTT = 8
 VALUES = {"smoothed_rtt", "rttvar"}
 
 
@@ -89,16 +89,17 @@ class Delays:
 
 @dataclass(frozen=True)
 class Age:
-    """How old a packet is at some time, and the round-trip time by which it is lost."""
+    """How old a packet is at some time, the round-trip time by which it is lost, and at how many
+    eighths of it."""
 
     age: int
     rtt: int
+    eighths: int
 
     @property
     def over(self) -> int:
         """By how much it is older than the loss delay."""
-        times, part = TIME_THRESHOLD
-        return self.age - self.rtt * times // part
+        return self.age - self.rtt * self.eighths // PARTS_OF_RTT
 
     @property
     def is_young(self) -> bool:

@@ -42,6 +42,11 @@ class Retry:
     numbers: dict[str, int]
 
 
+def estimate_of(event: Event) -> tuple[object, object]:
+    """The smoothed RTT and its variation that a report has, as they stand in the log."""
+    return event.data.get("smoothed_rtt"), event.data.get("rtt_variance")
+
+
 class Survey:
     """What the header and the second reading need. All packets are checked here."""
 
@@ -52,8 +57,6 @@ class Survey:
         self.validation = Validation(role)
         self.retry: Retry | None = None
         self._last_numbers: dict[str, int] = {}
-        # Whether a number was passed over between two packets of a space.
-        self.has_skipped = False
         # Where Initial packets go, as long as none has come, and the round-trip time so far.
         self._destination: object = None
         self._smoothed = 0
@@ -62,6 +65,11 @@ class Survey:
         # Nanoseconds.
         self.max_ack_delay: int | None = None
         self.first_smoothed: int | None = None
+        # The smoothed RTT and its variation before a sample, as they stand in the log, whether they
+        # were others since, and whether they came back.
+        self._may_reset_rtt = dialect.may_reset_rtt
+        self._first_estimate: tuple[object, object] | None = None
+        self._has_estimate = self.has_reset_rtt = False
         self.first_window: int | None = None
         self.largest_size = 0
         # What recovery:parameters_set says, by the keys of the header.
@@ -170,7 +178,6 @@ class Survey:
             return
         assert event.number >= 0
         self._see_destination(event)
-        self.has_skipped |= event.number > self._last_numbers.get(event.space, event.number) + 1
         self._last_numbers[event.space] = event.number
         self._see_frames(event)
         if not event.has_size:
@@ -229,6 +236,7 @@ class Survey:
             self.highest_pto_count = max(self.highest_pto_count, count)
             self.counts_at_timers |= self._is_after_timer
         if self._has_ack:
+            self._see_reset(event)
             return
         values = event.metrics()
         self._smoothed = values.get("smoothed_rtt", self._smoothed)
@@ -237,6 +245,17 @@ class Survey:
         # A report with a sample may stand before the packet that gave it.
         if self.first_smoothed is None and not values.get("latest_rtt"):
             self.first_smoothed = values.get("smoothed_rtt") or None
+            self._first_estimate = estimate_of(event)
+
+    def _see_reset(self, event: Event) -> None:
+        if not self._may_reset_rtt or self.has_reset_rtt:
+            return
+        estimate = estimate_of(event)
+        if None in estimate:
+            return
+        is_first = estimate == self._first_estimate
+        self.has_reset_rtt = self._has_estimate and is_first
+        self._has_estimate |= not is_first
 
     def max_datagram_size(self, initial_datagrams: int) -> tuple[int, Guess]:
         """The part of the first window, where no packet was larger; else the largest packet."""

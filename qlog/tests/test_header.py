@@ -34,13 +34,28 @@ class Header(unittest.TestCase):
 
     def test_parameters_of_recovery_that_a_header_cannot_say(self) -> None:
         for said, word in (
-            ({"time_threshold": 1.25}, "its time_threshold is 1.25, and traces know only 9/8"),
+            ({"time_threshold": 1.3}, "its time_threshold is 1.3, and that of the header 9/8;"),
+            ({"time_threshold": 1.0}, "its time_threshold is 1, and that of the header 9/8;"),
+            ({"time_threshold": 4.125}, "its time_threshold is 4.125, and that of the header 9/8;"),
             ({"reordering_threshold": 2}, "its reordering_threshold is 2, which the header does"),
         ):
             event = {"time": 0, "name": "recovery:parameters_set", "data": said}
             end = converted([event, sent(0, 0)])
             self.assertEqual(end.lines[0]["packet_threshold"], 3)
             self.assertIn(f"qlog-to-trace: LOG: {word}", end.errors)
+
+    def test_a_time_threshold_that_the_log_says(self) -> None:
+        for said, eighths in ((1.125, 9), (1.25, 10), (1.249, 10), (4, 32)):
+            event = {"time": 0, "name": "recovery:parameters_set", "data": {"time_threshold": said}}
+            end = converted([event, sent(0, 0)])
+            self.assertEqual(end.lines[0].get("time_threshold_eighths", 9), eighths)
+            self.assertEqual(end.errors, "")
+        end = converted([event, sent(0, 0)], "--time-threshold-eighths", "10")
+        self.assertEqual(end.lines[0]["time_threshold_eighths"], 10)
+        self.assertIn("its time_threshold is 4, and that of the header 10/8;", end.errors)
+        second = converted([event, sent(0, 0)], "--format", "2")
+        self.assertNotIn("time_threshold_eighths", second.lines[0])
+        self.assertIn("its time_threshold is 4, and that of the header 9/8;", second.errors)
 
     def test_values_that_a_header_cannot_have_are_left_out(self) -> None:
         said = {"initial_rtt": 0, "max_datagram_size": 100, "initial_congestion_window": 1}
@@ -65,7 +80,7 @@ class Header(unittest.TestCase):
         exact = {"timer_late_us", "report_slack_us", "report_slack_bytes"}
         self.assertEqual(keys[2] - keys[1], exact)
         choices = {"unit", "window", "window_overshoot", "sample_eliciting_only"}
-        choices |= {"packet_threshold", "timer_early_us", "loss_by_number"}
+        choices |= {"packet_threshold", "timer_early_us", "loss_by_number", "recovery_by_order"}
         self.assertEqual(keys[3] - keys[2], choices)
 
     def test_the_options_of_each_kind_of_log(self) -> None:
@@ -137,6 +152,11 @@ class Header(unittest.TestCase):
             ("--timer-early-us", "timer_early_us", "0", 0),
             ("--loss-by-number", "loss_by_number", "may", "may"),
             ("--loss-by-number", "loss_by_number", "must", "must"),
+            ("--threshold-counts", "threshold_counts", "packets", "packets"),
+            ("--reset-rtt", "reset_rtt", "yes", True),
+            ("--latest-rtt-less-delay", "latest_rtt_less_delay", "yes", True),
+            ("--time-threshold-eighths", "time_threshold_eighths", "32", 32),
+            ("--recovery-by-order", "recovery_by_order", "yes", True),
         ):
             events = [sent(0, 0), metrics(0, congestion_window=12000)]
             self.assertEqual(converted(events, option, text).lines[0][key], value)
@@ -153,16 +173,41 @@ class Header(unittest.TestCase):
         must = converted(with_window, "--loss-by-number", "must", name="ngtcp2")
         self.assertEqual(must.lines[0]["loss_by_number"], "must")
 
-    def test_losses_may_be_declared_where_numbers_were_skipped(self) -> None:
+    def test_a_sender_that_counts_packets(self) -> None:
         file = "urn:ietf:params:qlog:file:sequential"
-        for schema, numbers, said in (
-            (file, (0, 1, 2), "must"),
-            (file, (0, 1, 3), "may"),
-            ("0.3", (0, 1, 3), "must"),
-        ):
-            events = [*(sent(0, it) for it in numbers), metrics(0, congestion_window=12000)]
+        for schema, said in ((file, "packets"), ("0.3", None)):
+            events = [sent(0, 0), sent(0, 2), metrics(0, congestion_window=12000)]
             line = converted(events, name="quic-go", schema=schema).lines[0]
-            self.assertEqual(line["loss_by_number"], said, (schema, numbers))
+            self.assertEqual(line.get("threshold_counts"), said, schema)
+            self.assertEqual(line["loss_by_number"], "must", schema)
+        named = converted(events, "--threshold-counts", "numbers", name="quic-go", schema=file)
+        self.assertNotIn("threshold_counts", named.lines[0])
+
+    def test_a_sender_that_resets_the_rtt(self) -> None:
+        first = {"smoothed_rtt": 333, "rtt_variance": 166}
+        later = {"smoothed_rtt": 46, "rtt_variance": 4, "latest_rtt": 35}
+        again = {**first, "latest_rtt": 35}
+        for name, reports, said in (
+            ("ngtcp2", (later, again), True),
+            ("ngtcp2", (later, later), None),
+            ("ngtcp2", (again, later), None),
+            ("neqo", (later, again), None),
+        ):
+            events = [sent(0, 0), metrics(0, congestion_window=12000, **first)]
+            events.append(received(40, [[0]]))
+            events += [metrics(40 + at, **report) for at, report in enumerate(reports)]
+            line = converted(events, name=name).lines[0]
+            self.assertEqual(line.get("reset_rtt"), said, (name, reports))
+
+    def test_recovery_goes_by_the_order_if_times_can_be_equal(self) -> None:
+        for name, time, said in (
+            ("neqo", 1.25, True),
+            ("ngtcp2", 1, True),
+            ("quic-go", 1, True),
+            ("quic-go", 1.25, None),
+        ):
+            line = converted([sent(0, 0), sent(time, 1)], name=name).lines[0]
+            self.assertEqual(line.get("recovery_by_order"), said, (name, time))
 
     def test_which_side(self) -> None:
         traces = [{**header(role=it), "events": [sent(0, 0)]} for it in ("server", "client")]

@@ -44,7 +44,8 @@ class Limits(unittest.TestCase):
                 events += [sent(start + 205, at), sent(start + 206, at + 1)]
                 events += [received(start + 306, [[at + 1]]), expired(start + 205 + time, "ack")]
                 events += [lost(start + 205 + time, at)]
-            self.assertEqual(told(events, "its loss timers fire later than at 9/8"), is_told)
+            text = "its loss timers fire later than at the time threshold"
+            self.assertEqual(told(events, text), is_told)
 
     def test_a_packet_of_the_tick_of_a_loss(self) -> None:
         for time, is_told in ((50, True), (51, False)):

@@ -152,8 +152,8 @@ class Netlogs(unittest.TestCase):
         other = End(netlog(sent(0, 1, source=7, size=1001), self.FIVE), "--connection", "2")
         self.assertEqual([line["size"] for line in other.only("sent")], [1001])
 
-    def test_its_time_threshold_is_told(self) -> None:
-        self.assertIn("its time_threshold is 1.25", End(netlog(self.FIVE)).errors)
+    def test_its_time_threshold_is_ten_eighths(self) -> None:
+        self.assertEqual(End(netlog(self.FIVE)).lines[0]["time_threshold_eighths"], 10)
 
     def test_a_torn_netlog(self) -> None:
         end = End(netlog(self.FIVE, acked(20, 1, 5), sent(21, 6))[:-60])

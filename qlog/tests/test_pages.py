@@ -34,7 +34,7 @@ class Pages(unittest.TestCase):
 
 class Real(unittest.TestCase):
     """Each log of conformance/real/traces gives the trace beside it, which sets no limit for late
-    timers."""
+    timers, and in which the latest round-trip time may be kept whole."""
 
     def test_real(self) -> None:
         paths = [*sorted(REAL.glob("*.qlog")), *sorted(REAL.glob("*.netlog"))]
@@ -42,8 +42,15 @@ class Real(unittest.TestCase):
         for path in paths:
             with self.subTest(path.name):
                 expected = path.with_suffix(".trace").read_text()
-                version = json.loads(expected.partition("\n")[0])["version"]
-                words = ("--version", str(version), *(("--timer-late", "no") * (version >= 2)))
+                header = json.loads(expected.partition("\n")[0])
+                version = header["version"]
+                words = ["--version", str(version), *(("--timer-late", "no") * (version >= 2))]
+                if version >= 3:
+                    is_less = header.get("latest_rtt_less_delay", False)
+                    words += ["--latest-rtt-less-delay", "yes" if is_less else "no"]
+                    by_order = header.get("recovery_by_order", False)
+                    words += ["--recovery-by-order", "yes" if by_order else "no"]
+                    words += ["--threshold-counts", header.get("threshold_counts", "numbers")]
                 self.assertEqual(End(path.read_bytes(), *words).text, expected)
 
 
