@@ -25,4 +25,6 @@ pub mod Alike
 pub mod LowerThreshold
 pub mod Looser
 pub mod SameVersion
+pub mod Skipped
+pub mod CountsAlike
 pub mod NothingFree

@@ -6,3 +6,4 @@ pub mod Alike
 pub mod Conduct
 pub mod Congested
 pub mod Latest
+pub mod Skipped

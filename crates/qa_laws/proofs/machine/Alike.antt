@@ -1,6 +1,7 @@
 -- What alike headers have in common: all that a history makes, where losses are looked for as of the same times.
 use Rattle.qa_base.proofs.machine.Quiet.{same_sum}
 use Rattle.qa_base.specs.declared.space.LossByNumber.{LossByNumber}
+use Rattle.qa_base.specs.declared.space.ThresholdCounts.{ThresholdCounts}
 use Rattle.std.proofs.Common.{◌≡◌, ◌∙◌, ◌+◌, ◌*◌, ◌^◌, ◌&&◌, ◌||◌, not, ℕ, List, [], ◌∷◌, ◌++◌, Bool, true, Option, Some, None, refl, sym, ap, ap₂, fold, count_by, map, min, option_map, is_none, Contains, inl, inr, ◌⊎◌}
 use Rattle.std.specs.List.{list_any, AllByRecursion}
 use Rattle.std.specs.Option.{option_or}
@@ -43,6 +44,7 @@ pub record Tolerances : Type 0 where
   pub packet_threshold : ℕ
   pub timer_early_us : ℕ
   pub loss_by_number : LossByNumber
+  pub threshold_counts : ThresholdCounts
   pub report_slack_us : ℕ
   pub report_slack_bytes : ℕ
 
@@ -54,6 +56,7 @@ tolerances_of c = record {
   packet_threshold = c.options.packet_threshold;
   timer_early_us = c.options.timer_early_us;
   loss_by_number = c.options.loss_by_number;
+  threshold_counts = c.options.threshold_counts;
   report_slack_us = c.options.report_slack_us;
   report_slack_bytes = c.options.report_slack_bytes;
 }
@@ -79,7 +82,7 @@ like c t = record {
     packet_threshold = t.packet_threshold;
     timer_early_us = t.timer_early_us;
     loss_by_number = t.loss_by_number;
-    threshold_counts = c.options.threshold_counts;
+    threshold_counts = t.threshold_counts;
     reset_rtt = c.options.reset_rtt;
     latest_rtt_less_delay = c.options.latest_rtt_less_delay;
     time_threshold_eighths = c.options.time_threshold_eighths;
@@ -98,7 +101,6 @@ like_is c d a = rw (
   sym a.refresh_min_rtt,
   sym a.controller,
   sym a.sample_eliciting_only,
-  sym a.threshold_counts,
   sym a.reset_rtt,
   sym a.latest_rtt_less_delay,
   sym a.time_threshold_eighths,
@@ -141,18 +143,25 @@ Agree c t (e ∷ h) = Agree c t h × AgreesAt c t e h
 
 -- ---- thresholds
 
--- losses by number are asked for alike, and the thresholds are the same, or what lies behind by number is not owed
+-- losses by number are asked for alike, and counted alike
+abbrev pub AsksAlike : Settings → Tolerances → Type 0
+AsksAlike c t = (t.loss_by_number ≡ c.options.loss_by_number) × (t.threshold_counts ≡ c.options.threshold_counts)
+
+-- so they are, and the thresholds are the same, or what lies behind by number is not owed
 abbrev pub OwesAlike : Settings → Tolerances → Type 0
-OwesAlike c t = (t.loss_by_number ≡ c.options.loss_by_number) × ((t.packet_threshold ≡ c.options.packet_threshold) ⊎ (is_may c.options.loss_by_number ≡ true))
+OwesAlike c t = AsksAlike c t × ((t.packet_threshold ≡ c.options.packet_threshold) ⊎ (is_may c.options.loss_by_number ≡ true))
 
 -- and in any case the same
 abbrev pub SameLosses : Settings → Tolerances → Type 0
-SameLosses c t = (t.loss_by_number ≡ c.options.loss_by_number) × (t.packet_threshold ≡ c.options.packet_threshold)
+SameLosses c t = AsksAlike c t × (t.packet_threshold ≡ c.options.packet_threshold)
 
 past_alike : (c : Settings) (t : Tolerances) → OwesAlike c t → (r : Estimate) (h : List Event) (now : ℕ) (most : Option ℕ) (p : Packet) → is_past_threshold (like c t) r h now most p ≡ is_past_threshold c r h now most p
 past_alike c t alike r h now None p = refl
-past_alike c t (asked, inl same) r h now (Some m) p = ap₂ (λ l k. nat_lt p.number m && ((not (is_may l) && nat_le k (distance_below c.options.threshold_counts h p.space p.number m)) || is_old c r now p)) asked same
-past_alike c t (asked, inr may) r h now (Some m) p = ap (λ l. nat_lt p.number m && ((not (is_may l) && nat_le t.packet_threshold (distance_below c.options.threshold_counts h p.space p.number m)) || is_old c r now p)) asked ∙ rw may refl
+past_alike c t (asked, inl same) r h now (Some m) p =
+    ap₂ (λ l k. nat_lt p.number m && ((not (is_may l) && nat_le k (distance_below t.threshold_counts h p.space p.number m)) || is_old c r now p)) asked.0 same
+    ∙ ap (λ k. nat_lt p.number m && ((not (is_may c.options.loss_by_number) && nat_le c.options.packet_threshold (distance_below k h p.space p.number m)) || is_old c r now p)) asked.1
+past_alike c t (asked, inr may) r h now (Some m) p =
+    ap (λ l. nat_lt p.number m && ((not (is_may l) && nat_le t.packet_threshold (distance_below t.threshold_counts h p.space p.number m)) || is_old c r now p)) asked.0 ∙ rw may refl
 
 pub found_alike : (c : Settings) (t : Tolerances) → OwesAlike c t → (r : Estimate) (h : List Event) (p : Packet) (d : Option (Space × ℕ)) → is_at (is_found (like c t) r h) p d ≡ is_at (is_found c r h) p d
 found_alike c t alike r h p None = refl
@@ -162,7 +171,9 @@ found_alike c t alike r h p (Some d) =
 spared_alike : (c : Settings) (t : Tolerances) → SameLosses c t → (r : Estimate) (h : List Event) (now : ℕ) (most : Option ℕ) (p : Packet)
     → may_be_spared (like c t) r h now most p ≡ may_be_spared c r h now most p
 spared_alike c t same r h now None p = refl
-spared_alike c t same r h now (Some m) p = ap₂ (λ l k. nat_lt p.number m && (is_may l && nat_le k (distance_below c.options.threshold_counts h p.space p.number m)) && not (is_old c r now p)) same.0 same.1
+spared_alike c t same r h now (Some m) p =
+    ap₂ (λ l k. nat_lt p.number m && (is_may l && nat_le k (distance_below t.threshold_counts h p.space p.number m)) && not (is_old c r now p)) same.0.0 same.1
+    ∙ ap (λ k. nat_lt p.number m && (is_may c.options.loss_by_number && nat_le c.options.packet_threshold (distance_below k h p.space p.number m)) && not (is_old c r now p)) same.0.1
 
 left_alike : (c : Settings) (t : Tolerances) → SameLosses c t → (r : Estimate) (h : List Event) (p : Packet) (d : Option (Space × ℕ))
     → is_at (is_left (like c t) r h) p d ≡ is_at (is_left c r h) p d
@@ -254,7 +265,7 @@ same_declared c t h agree = (same_estimate c t h agree).lost
 pub same_owed : (c : Settings) (t : Tolerances) (h : List Event) → Agree c t h → owed (like c t) h ≡ owed c h
 same_owed c t h agree = owed_by_samples c t h agree (same_sampled c t h agree)
 
-same_is_owed : (c : Settings) (t : Tolerances) (h : List Event) → Agree c t h → (p : Packet) → Contains (packets h) p → is_owed (like c t) h p ≡ is_owed c h p
+pub same_is_owed : (c : Settings) (t : Tolerances) (h : List Event) → Agree c t h → (p : Packet) → Contains (packets h) p → is_owed (like c t) h p ≡ is_owed c h p
 same_is_owed c t h agree p has = is_owed_by_samples c t h agree (same_sampled c t h agree) p has
 
 is_free_alike : (c : Settings) (t : Tolerances) (h : List Event) → SameLosses c t → Detects c t h → (p : Packet) → is_free (like c t) h p ≡ is_free c h p

@@ -280,7 +280,7 @@ pub run_if_looser : (c d : Settings) (h : List Event) → IsLooser c d → AllBy
 run_if_looser c d h looser fit run =
     let t = tolerances_of d in
     subst (λ (s : Settings). IsRun s h) (like_is c d looser.alike)
-    (run_stays c t h (record { threshold = (looser.alike.loss_by_number, looser.threshold); late = looser.late; overshoot = looser.overshoot; early = looser.early; slack_us = looser.slack_us; slack_bytes = looser.slack_bytes }) (inr fit) run)
+    (run_stays c t h (record { threshold = ((looser.alike.loss_by_number, looser.alike.threshold_counts), looser.threshold); late = looser.late; overshoot = looser.overshoot; early = looser.early; slack_us = looser.slack_us; slack_bytes = looser.slack_bytes }) (inr fit) run)
 
 same_limit : (limit : Option ℕ) → IsNoLess limit limit
 same_limit None = tt
@@ -290,10 +290,10 @@ same_limit (Some n) = omega arith
 pub owes_the_same : (c d : Settings) (h : List Event) → IsLooser c d → IsRun c h → owed d h ≡ owed c h
 owes_the_same c d h looser run =
     let t = tolerances_of d in
-    subst (λ (s : Settings). owed s h ≡ owed c h) (like_is c d looser.alike) (same_owed c t h (agree_in_run c t h (looser.alike.loss_by_number, looser.threshold) looser.early run))
+    subst (λ (s : Settings). owed s h ≡ owed c h) (like_is c d looser.alike) (same_owed c t h (agree_in_run c t h ((looser.alike.loss_by_number, looser.alike.threshold_counts), looser.threshold) looser.early run))
 
 -- and where slacks alone are greater
 pub run_with_more_slack : (c : Settings) (us bytes : ℕ) (h : List Event) → c.options.report_slack_us ≤ us → c.options.report_slack_bytes ≤ bytes → IsRun c h → IsRun (with_slacks c us bytes) h
 run_with_more_slack c us bytes h more_us more_bytes run =
     run_stays c (record (tolerances_of c) { report_slack_us = us; report_slack_bytes = bytes }) h
-    (record { threshold = (refl, inl refl); late = same_limit c.options.timer_late; overshoot = λ is. is; early = omega arith; slack_us = more_us; slack_bytes = more_bytes }) (inl refl) run
+    (record { threshold = ((refl, refl), inl refl); late = same_limit c.options.timer_late; overshoot = λ is. is; early = omega arith; slack_us = more_us; slack_bytes = more_bytes }) (inl refl) run

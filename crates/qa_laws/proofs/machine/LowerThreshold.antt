@@ -18,7 +18,7 @@ use Rattle.qa_base.specs.values.Events.{declares_lost, is_named}
 use Rattle.qa_base.specs.values.Settings.{Settings, is_may}
 use Rattle.qa_base.proofs.machine.Ranges.{has_all_names}
 use Rattle.qa_base.proofs.machine.RunLaws.{tolerated_run_of}
-use Rattle.qa_laws.proofs.machine.Alike.{Agree, Detects, OwesAlike, Tolerances, detects_at, like, owes_alike, same_owed, same_sampled}
+use Rattle.qa_laws.proofs.machine.Alike.{Agree, AsksAlike, Detects, OwesAlike, Tolerances, detects_at, like, owes_alike, same_owed, same_sampled}
 use Rattle.qa_base.proofs.history.Changes.{named_is_nameable, spared_is_young}
 
 -- ---- what is free
@@ -26,7 +26,7 @@ use Rattle.qa_base.proofs.history.Changes.{named_is_nameable, spared_is_young}
 -- losses by number are asked for alike, and the threshold is the same, or packets may be spared and it is no higher
 abbrev pub NoStricter : Settings → Tolerances → Type 0
 NoStricter c t =
-    (t.loss_by_number ≡ c.options.loss_by_number)
+    AsksAlike c t
     × ((t.packet_threshold ≡ c.options.packet_threshold) ⊎ ((is_may c.options.loss_by_number ≡ true) × (t.packet_threshold ≤ c.options.packet_threshold)))
 
 pub owes_if : (c : Settings) (t : Tolerances) → NoStricter c t → OwesAlike c t
@@ -47,8 +47,9 @@ spared_more c t no_stricter r h now (Some m) p is =
     let by_number = and_parts may (nat_le c.options.packet_threshold distance) both.1 in
     let far = leb-true c.options.packet_threshold distance by_number.1 in
     let less = at_most c t no_stricter in
-    let may_too : is_may t.loss_by_number ≡ true = ap is_may no_stricter.0 ∙ by_number.0 in
-    and_from (nat_lt p.number m && (is_may t.loss_by_number && nat_le t.packet_threshold distance)) (not (is_old c r now p))
+    let may_too : is_may t.loss_by_number ≡ true = ap is_may no_stricter.0.0 ∙ by_number.0 in
+    ap (λ k. nat_lt p.number m && (is_may t.loss_by_number && nat_le t.packet_threshold (distance_below k h p.space p.number m)) && not (is_old c r now p)) no_stricter.0.1
+    ∙ and_from (nat_lt p.number m && (is_may t.loss_by_number && nat_le t.packet_threshold distance)) (not (is_old c r now p))
     (and_from (nat_lt p.number m) (is_may t.loss_by_number && nat_le t.packet_threshold distance) both.0
     (and_from (is_may t.loss_by_number) (nat_le t.packet_threshold distance) may_too (le-leb t.packet_threshold distance (omega (arith, far, less))))) young.1
 

@@ -54,10 +54,10 @@ found_strictly : (c : Settings) (r : Estimate) (h : List Event) (p : Packet) (d 
 found_strictly c r h p None none = refl
 found_strictly c r h p (Some (s, now)) none = found_by c r h p s now (largest_acknowledged h s) none
 
-agree_strictly : (c : Settings) (h : List Event) → NothingFree c h → Agree c (varied c c.version Must) h
+agree_strictly : (c : Settings) (h : List Event) → NothingFree c h → Agree c (varied c c.version Must c.options.threshold_counts) h
 agree_strictly c [] nothing = tt
 agree_strictly c (e ∷ h) nothing =
-    let t = varied c c.version Must in (
+    let t = varied c c.version Must c.options.threshold_counts in (
       agree_strictly c h nothing.0,
       record {
         owes = λ p has. ap (is_at (is_found (like c t) (sampled c (e ∷ h)) (e ∷ h)) p) (detects_at c t (e ∷ h) (detects_if_equally_early c t (e ∷ h) refl))
@@ -75,12 +75,12 @@ or_none false b none = none
 nameable_strictly : (c : Settings) (h : List Event) → NothingFree c h → nameable (where_they_must c) h ≡ nameable c h
 nameable_strictly c h nothing =
     must_nameable (where_they_must c) h refl
-    ∙ (same_owed c (varied c c.version Must) h (agree_strictly c h nothing)
+    ∙ (same_owed c (varied c c.version Must c.options.threshold_counts) h (agree_strictly c h nothing)
     ∙ (owed_is c h
     ∙ sym (same_part (is_nameable c h) (is_owed c h) (packets h) (of_each (λ p. is_nameable c h p ≡ is_owed c h p) (packets h) (λ p has. or_none (is_owed c h p) (is_free c h p) (none_at c h nothing p has))))))
 
 same_rule : (c : Settings) (h : List Event) → NothingFree c h → (e : Event) → first_broken (where_they_must c) h e ≡ first_broken c h e
-same_rule c h nothing e = same_broken_by c c.version Must h (agree_strictly c h nothing) (nameable_strictly c h nothing) e
+same_rule c h nothing e = same_broken_by c c.version Must c.options.threshold_counts h (agree_strictly c h nothing) (nameable_strictly c h nothing) e
 
 -- ---- runs
 
@@ -96,7 +96,7 @@ pub same_runs_strictly : (c : Settings) (h : List Event) → NothingFree c h →
 same_runs_strictly c h nothing = (run_back c h nothing, run_there c h nothing)
 
 pub same_totals_strictly : (c : Settings) (h : List Event) → NothingFree c h → totals (where_they_must c) h ≡ totals c h
-same_totals_strictly c h nothing = same_totals c (varied c c.version Must) h (agree_strictly c h nothing)
+same_totals_strictly c h nothing = same_totals c (varied c c.version Must c.options.threshold_counts) h (agree_strictly c h nothing)
 
 pub same_owed_strictly : (c : Settings) (h : List Event) → NothingFree c h → owed (where_they_must c) h ≡ owed c h
-same_owed_strictly c h nothing = same_owed c (varied c c.version Must) h (agree_strictly c h nothing)
+same_owed_strictly c h nothing = same_owed c (varied c c.version Must c.options.threshold_counts) h (agree_strictly c h nothing)

@@ -14,6 +14,7 @@ use Rattle.qa_base.specs.machine.Numbers.{is_in}
 use Rattle.qa_base.specs.machine.Packets.{Packet, packets_of}
 use Rattle.qa_base.specs.machine.Rtt.{Estimate}
 use Rattle.qa_base.specs.machine.Rules.{IsRun}
+use Rattle.qa_base.specs.machine.Violations.{IsToleratedRun}
 use Rattle.qa_base.specs.history.Sequence.{EachTwo}
 use Rattle.qa_base.specs.values.Settings.{Settings, is_may}
 use Rattle.qa_base.proofs.history.Pairs.{each_weaker}
@@ -113,12 +114,16 @@ all_of n top (p ∷ ps) two all =
 pub no_more : (c : Settings) (h : List Event) → IsRun c h → (s : Space) (number largest : ℕ) → distance_below Packets h s number largest ≤ distance_below Numbers h s number largest
 no_more c h run s number largest = no_more_of number largest (packets_of h s) (in_order_of c h s (tolerated_run_of c h run))
 
+pub as_many_in : (c : Settings) (h : List Event) → IsToleratedRun c h → (s : Space) (number largest : ℕ) → ((n : ℕ) → number < n → n ≤ largest → is_in (numbers_of h s) n ≡ true)
+    → distance_below Packets h s number largest ≡ distance_below Numbers h s number largest
+as_many_in c h run s number largest all =
+    let most = no_more_of number largest (packets_of h s) (in_order_of c h s run) in
+    let least = all_of number largest (packets_of h s) (in_order_of c h s run) all in
+    omega (arith, most, least)
+
 pub as_many : (c : Settings) (h : List Event) → IsRun c h → (s : Space) (number largest : ℕ) → ((n : ℕ) → number < n → n ≤ largest → is_in (numbers_of h s) n ≡ true)
     → distance_below Packets h s number largest ≡ distance_below Numbers h s number largest
-as_many c h run s number largest all =
-    let most = no_more c h run s number largest in
-    let least = all_of number largest (packets_of h s) (in_order_of c h s (tolerated_run_of c h run)) all in
-    omega (arith, most, least)
+as_many c h run = as_many_in c h (tolerated_run_of c h run)
 
 -- ---- the thresholds
 
@@ -142,14 +147,23 @@ past_by_packets c h run r now (Some largest) p past =
       | inr aged ↦ or_right (must && by_numbers) old aged
     ])
 
-far_alike : (c : Settings) (h : List Event) → IsRun c h → (largest : ℕ) (p : Packet) → ((n : ℕ) → p.number < n → n ≤ largest → is_in (numbers_of h p.space) n ≡ true)
+-- d are the settings by which the history is a tolerated run
+far_alike : (c d : Settings) (h : List Event) → IsToleratedRun d h → (largest : ℕ) (p : Packet) → ((n : ℕ) → p.number < n → n ≤ largest → is_in (numbers_of h p.space) n ≡ true)
     → is_far_below (counting c Packets) h largest p ≡ is_far_below (counting c Numbers) h largest p
-far_alike c h run largest p all = ap (nat_le c.options.packet_threshold) (as_many c h run p.space p.number largest all)
+far_alike c d h run largest p all = ap (nat_le c.options.packet_threshold) (as_many_in d h run p.space p.number largest all)
+
+pub past_alike_in : (c d : Settings) (h : List Event) → IsToleratedRun d h → (r : Estimate) (now largest : ℕ) (p : Packet) → ((n : ℕ) → p.number < n → n ≤ largest → is_in (numbers_of h p.space) n ≡ true)
+    → is_past_threshold (counting c Packets) r h now (Some largest) p ≡ is_past_threshold (counting c Numbers) r h now (Some largest) p
+past_alike_in c d h run r now largest p all = ap (λ b. nat_lt p.number largest && ((not (is_may c.options.loss_by_number) && b) || is_old c r now p)) (far_alike c d h run largest p all)
+
+pub spared_alike_in : (c d : Settings) (h : List Event) → IsToleratedRun d h → (r : Estimate) (now largest : ℕ) (p : Packet) → ((n : ℕ) → p.number < n → n ≤ largest → is_in (numbers_of h p.space) n ≡ true)
+    → may_be_spared (counting c Packets) r h now (Some largest) p ≡ may_be_spared (counting c Numbers) r h now (Some largest) p
+spared_alike_in c d h run r now largest p all = ap (λ b. nat_lt p.number largest && (is_may c.options.loss_by_number && b) && not (is_old c r now p)) (far_alike c d h run largest p all)
 
 pub past_alike : (c : Settings) (h : List Event) → IsRun c h → (r : Estimate) (now largest : ℕ) (p : Packet) → ((n : ℕ) → p.number < n → n ≤ largest → is_in (numbers_of h p.space) n ≡ true)
     → is_past_threshold (counting c Packets) r h now (Some largest) p ≡ is_past_threshold (counting c Numbers) r h now (Some largest) p
-past_alike c h run r now largest p all = ap (λ b. nat_lt p.number largest && ((not (is_may c.options.loss_by_number) && b) || is_old c r now p)) (far_alike c h run largest p all)
+past_alike c h run = past_alike_in c c h (tolerated_run_of c h run)
 
 pub spared_alike : (c : Settings) (h : List Event) → IsRun c h → (r : Estimate) (now largest : ℕ) (p : Packet) → ((n : ℕ) → p.number < n → n ≤ largest → is_in (numbers_of h p.space) n ≡ true)
     → may_be_spared (counting c Packets) r h now (Some largest) p ≡ may_be_spared (counting c Numbers) r h now (Some largest) p
-spared_alike c h run r now largest p all = ap (λ b. nat_lt p.number largest && (is_may c.options.loss_by_number && b) && not (is_old c r now p)) (far_alike c h run largest p all)
+spared_alike c h run = spared_alike_in c c h (tolerated_run_of c h run)

@@ -1,5 +1,6 @@
 -- A header in another version asks the same.
 use Rattle.qa_base.specs.declared.space.LossByNumber.{LossByNumber}
+use Rattle.qa_base.specs.declared.space.ThresholdCounts.{ThresholdCounts}
 use Rattle.std.proofs.Common.{◌≡◌, ◌∙◌, ◌+◌, ◌&&◌, ◌↔◌, List, [], ◌∷◌, ◌++◌, Bool, true, false, Result, Ok, Err, refl, sym, ap, ap₂, subst}
 use Rattle.std.specs.Prelude.{if◌then◌else◌, unwrap_or}
 use Rattle.qa_base.specs.declared.event.Event.{Event}
@@ -14,7 +15,7 @@ use Rattle.qa_base.specs.declared.space.Permission.TheVariants.{Window}
 use Rattle.qa_base.specs.machine.Breaches.{is_above_collapse, is_ack_unsent, is_before, is_collapse_missing, is_not_confirmed, is_number_not_higher, is_past, is_past_probe, is_past_window, is_probe_owed, is_space_gone, is_time_back, is_timer_early, is_timer_late}
 use Rattle.qa_base.specs.machine.Loss.{nameable}
 use Rattle.qa_base.specs.machine.Metrics.{metric_tests, tests}
-use Rattle.qa_base.specs.machine.Rules.{first_of, first_broken, IsComplete, IsRun}
+use Rattle.qa_base.specs.machine.Rules.{broken, first_of, first_broken, IsComplete, IsRun}
 use Rattle.qa_base.specs.machine.State.{totals}
 use Rattle.qa_base.specs.machine.Window.{other_window}
 use Rattle.qa_base.specs.values.Constants.{minimum_window}
@@ -25,70 +26,74 @@ use Rattle.qa_laws.specs.machine.Alike.{of_version}
 use Rattle.qa_laws.proofs.machine.Alike.{Agree, Tolerances, agree_if_equally_early, detects_if_equally_early, same_bytes, same_collapse, same_deadline, same_loss_not_owed, same_loss_owed, same_loss_set, same_nameable, same_not_set, same_other, same_owed, same_past_recovery, same_totals, same_window, tolerances_of, like}
 use Rattle.qa_laws.proofs.machine.Looser.{same_late}
 
--- what the header says of them, but for its version and for losses by number
-abbrev pub varied : Settings → Version → LossByNumber → Tolerances
-varied c version losses = record (tolerances_of c) { version = version; loss_by_number = losses }
+-- what the header says of them, but for its version, for losses by number and for how those are counted
+abbrev pub varied : Settings → Version → LossByNumber → ThresholdCounts → Tolerances
+varied c version losses counts = record (tolerances_of c) { version = version; loss_by_number = losses; threshold_counts = counts }
 
 -- the header with these
-abbrev vary : Settings → Version → LossByNumber → Settings
-vary c version losses = like c (varied c version losses)
+abbrev vary : Settings → Version → LossByNumber → ThresholdCounts → Settings
+vary c version losses counts = like c (varied c version losses counts)
 
 -- ---- the rules
 
-same_past_window : (c : Settings) (version : Version) (losses : LossByNumber) (h : List Event) → Agree c (varied c version losses) h → (e : Event) → is_past_window (vary c version losses) h e ≡ is_past_window c h e
-same_past_window c version losses h a (Sent packet) =
-    ap₂ (λ limit n. is_in_flight_by Window packet && is_past c.options.window_overshoot limit n packet.size) (same_window c (varied c version losses) h a) (same_bytes c (varied c version losses) h a)
-same_past_window c version losses h a _ = refl
+same_past_window : (c : Settings) (version : Version) (losses : LossByNumber) (counts : ThresholdCounts) (h : List Event) → Agree c (varied c version losses counts) h → (e : Event) → is_past_window (vary c version losses counts) h e ≡ is_past_window c h e
+same_past_window c version losses counts h a (Sent packet) =
+    ap₂ (λ limit n. is_in_flight_by Window packet && is_past c.options.window_overshoot limit n packet.size) (same_window c (varied c version losses counts) h a) (same_bytes c (varied c version losses counts) h a)
+same_past_window c version losses counts h a _ = refl
 
-same_timer_early : (c : Settings) (version : Version) (losses : LossByNumber) (h : List Event) → Agree c (varied c version losses) h → (e : Event) → is_timer_early (vary c version losses) h e ≡ is_timer_early c h e
-same_timer_early c version losses h a (Timer time kind space) = ap (is_before (time + early c)) (same_deadline c (varied c version losses) h a)
-same_timer_early c version losses h a _ = refl
+same_timer_early : (c : Settings) (version : Version) (losses : LossByNumber) (counts : ThresholdCounts) (h : List Event) → Agree c (varied c version losses counts) h → (e : Event) → is_timer_early (vary c version losses counts) h e ≡ is_timer_early c h e
+same_timer_early c version losses counts h a (Timer time kind space) = ap (is_before (time + early c)) (same_deadline c (varied c version losses counts) h a)
+same_timer_early c version losses counts h a _ = refl
 
-same_missing : (c : Settings) (version : Version) (losses : LossByNumber) (h : List Event) → Agree c (varied c version losses) h → (e : Event) → is_collapse_missing (vary c version losses) h e ≡ is_collapse_missing c h e
-same_missing c version losses h a e =
+same_missing : (c : Settings) (version : Version) (losses : LossByNumber) (counts : ThresholdCounts) (h : List Event) → Agree c (varied c version losses counts) h → (e : Event) → is_collapse_missing (vary c version losses counts) h e ≡ is_collapse_missing c h e
+same_missing c version losses counts h a e =
     ap (λ acknowledged. is_reported c.options.controller && is_above_collapse (minimum_window c.max_datagram_size + c.options.report_slack_bytes) (other_window c h e) acknowledged)
-    (same_collapse c (varied c version losses) h a)
+    (same_collapse c (varied c version losses counts) h a)
 
-same_metrics : (c : Settings) (version : Version) (losses : LossByNumber) (h : List Event) → Agree c (varied c version losses) h → (e : Event) → metric_tests (vary c version losses) h e ≡ metric_tests c h e
-same_metrics c version losses h a (Metrics time values) = ap (tests c values) (same_totals c (varied c version losses) h a)
-same_metrics c version losses h a _ = refl
+same_metrics : (c : Settings) (version : Version) (losses : LossByNumber) (counts : ThresholdCounts) (h : List Event) → Agree c (varied c version losses counts) h → (e : Event) → metric_tests (vary c version losses counts) h e ≡ metric_tests c h e
+same_metrics c version losses counts h a (Metrics time values) = ap (tests c values) (same_totals c (varied c version losses counts) h a)
+same_metrics c version losses counts h a _ = refl
 
 beside : (r : Rule) (a b : Bool) (xs ys : List (Bool × Rule)) → a ≡ b → xs ≡ ys → (a, r) ∷ xs ≡ (b, r) ∷ ys
 beside r a b xs ys same rest = ap₂ (λ k more. (k, r) ∷ more) same rest
 
--- where they agree, and a Lost line may name the same, it breaks the same rule
-pub same_broken_by : (c : Settings) (version : Version) (losses : LossByNumber) (h : List Event) → Agree c (varied c version losses) h → nameable (vary c version losses) h ≡ nameable c h → (e : Event) → first_broken (vary c version losses) h e ≡ first_broken c h e
-unfolding first_broken
-same_broken_by c version losses h a may_name e =
-    let d = vary c version losses in
-    let t = varied c version losses in
+-- where they agree, and a Lost line may name the same, it breaks the same rules
+pub same_tests_by : (c : Settings) (version : Version) (losses : LossByNumber) (counts : ThresholdCounts) (h : List Event) → Agree c (varied c version losses counts) h → nameable (vary c version losses counts) h ≡ nameable c h → (e : Event) → broken (vary c version losses counts) h e ≡ broken c h e
+same_tests_by c version losses counts h a may_name e =
+    let d = vary c version losses counts in
+    let t = varied c version losses counts in
     let late : is_timer_late d h e ≡ is_timer_late c h e = same_late c t h a (time_of e) c.options.timer_late in
-    let ends = ap₂ (λ here there. (here, rule.TimerLate) ∷ (there, rule.CollapseMissing) ∷ []) late (same_missing c version losses h a e) in
-    let metrics = ap₂ (λ ms more. ms ++ more) (same_metrics c version losses h a e) ends in
-    let own = ap₂ (λ timer more. (timer, rule.TimerEarly) ∷ (is_probe_owed h e, rule.ProbeOwed) ∷ (is_not_confirmed h e, rule.NotConfirmed) ∷ more) (same_timer_early c version losses h a e) metrics in
+    let ends = ap₂ (λ here there. (here, rule.TimerLate) ∷ (there, rule.CollapseMissing) ∷ []) late (same_missing c version losses counts h a e) in
+    let metrics = ap₂ (λ ms more. ms ++ more) (same_metrics c version losses counts h a e) ends in
+    let own = ap₂ (λ timer more. (timer, rule.TimerEarly) ∷ (is_probe_owed h e, rule.ProbeOwed) ∷ (is_not_confirmed h e, rule.NotConfirmed) ∷ more) (same_timer_early c version losses counts h a e) metrics in
     let other = ap₂ (λ timer more. (timer, rule.TimerOther) ∷ more) (same_other c t h a e) own in
     let set = ap₂ (λ timer more. (is_ack_unsent h e, rule.AckUnsent) ∷ (timer, rule.TimerNotSet) ∷ more) (same_not_set c t h a e) other in
     let recovery = ap₂ (λ past more. (is_past_probe c h e, rule.PastProbe) ∷ (past, rule.PastRecovery) ∷ more) (same_past_recovery c t h a e) set in
-    let past = ap₂ (λ past more. (is_space_gone h e, rule.SpaceGone) ∷ (is_number_not_higher h e, rule.NumberNotHigher) ∷ (past, rule.PastWindow) ∷ more) (same_past_window c version losses h a e) recovery in
+    let past = ap₂ (λ past more. (is_space_gone h e, rule.SpaceGone) ∷ (is_number_not_higher h e, rule.NumberNotHigher) ∷ (past, rule.PastWindow) ∷ more) (same_past_window c version losses counts h a e) recovery in
     let losses = ap₂ (λ other more. (other, rule.LossSet) ∷ more) (same_loss_set c t h a may_name e) past in
     let unowed = ap₂ (λ not_owed more. (not_owed, rule.LossNotOwed) ∷ more) (same_loss_not_owed c t h may_name e) losses in
-    ap₂ (λ is_owed more. first_of ((is_time_back h e, rule.TimeBack) ∷ (is_owed, rule.LossOwed) ∷ more)) (same_loss_owed c t h a e) unowed
+    ap₂ (λ is_owed more. (is_time_back h e, rule.TimeBack) ∷ (is_owed, rule.LossOwed) ∷ more) (same_loss_owed c t h a e) unowed
+
+-- and the same first
+pub same_broken_by : (c : Settings) (version : Version) (losses : LossByNumber) (counts : ThresholdCounts) (h : List Event) → Agree c (varied c version losses counts) h → nameable (vary c version losses counts) h ≡ nameable c h → (e : Event) → first_broken (vary c version losses counts) h e ≡ first_broken c h e
+unfolding first_broken
+same_broken_by c version losses counts h a may_name e = ap first_of (same_tests_by c version losses counts h a may_name e)
 
 -- ---- a version alone
 
-agree : (c : Settings) (version : Version) (h : List Event) → Agree c (varied c version c.options.loss_by_number) h
-agree c version h = agree_if_equally_early c (varied c version c.options.loss_by_number) h (refl, refl) refl
+agree : (c : Settings) (version : Version) (h : List Event) → Agree c (varied c version c.options.loss_by_number c.options.threshold_counts) h
+agree c version h = agree_if_equally_early c (varied c version c.options.loss_by_number c.options.threshold_counts) h ((refl, refl), refl) refl
 
 may_name : (c : Settings) (version : Version) (h : List Event) → nameable (of_version c version) h ≡ nameable c h
-may_name c version h = let t = varied c version c.options.loss_by_number in same_nameable c t h (refl, refl) (detects_if_equally_early c t h refl)
+may_name c version h = let t = varied c version c.options.loss_by_number c.options.threshold_counts in same_nameable c t h ((refl, refl), refl) (detects_if_equally_early c t h refl)
 
 pub same_broken : (c : Settings) (version : Version) (h : List Event) (e : Event) → first_broken (of_version c version) h e ≡ first_broken c h e
-same_broken c version h e = same_broken_by c version c.options.loss_by_number h (agree c version h) (may_name c version h) e
+same_broken c version h e = same_broken_by c version c.options.loss_by_number c.options.threshold_counts h (agree c version h) (may_name c version h) e
 
 -- ---- totals, runs and their ends
 
 pub same_held : (c : Settings) (version : Version) (h : List Event) → totals (of_version c version) h ≡ totals c h
-same_held c version h = same_totals c (varied c version c.options.loss_by_number) h (agree c version h)
+same_held c version h = same_totals c (varied c version c.options.loss_by_number c.options.threshold_counts) h (agree c version h)
 
 run_there : (c : Settings) (version : Version) (h : List Event) → IsRun c h → IsRun (of_version c version) h
 run_there c version [] run = tt
@@ -102,7 +107,7 @@ pub same_runs : (c : Settings) (version : Version) (h : List Event) → IsRun (o
 same_runs c version h = (run_back c version h, run_there c version h)
 
 pub same_ends : (c : Settings) (version : Version) (h : List Event) → IsComplete (of_version c version) h ↔ IsComplete c h
-same_ends c version h = let same = same_owed c (varied c version c.options.loss_by_number) h (agree c version h) in (λ none. sym same ∙ none, λ none. same ∙ none)
+same_ends c version h = let same = same_owed c (varied c version c.options.loss_by_number c.options.threshold_counts) h (agree c version h) in (λ none. sym same ∙ none, λ none. same ∙ none)
 
 -- ---- a header that is chosen to be of version 3, with the options that it had
 
