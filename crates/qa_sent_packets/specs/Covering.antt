@@ -1,5 +1,5 @@
 -- An acknowledgment of the numbers of one range, by which those of all its ranges are acknowledged.
-use Rattle.std.specs.Prelude.{◌≡◌, ℕ, suc, ◌+◌, ◌&&◌, nat_le, Bool, List, [], ◌∷◌, Option, Some}
+use Rattle.std.specs.Prelude.{◌≡◌, ℕ, suc, ◌+◌, ◌-◌, ◌&&◌, nat_le, Bool, List, [], ◌∷◌, Option, Some}
 use Rattle.std.specs.Prelude.{None, if◌then◌else◌, ◌<◌, ◌≤◌}
 use Rattle.std.specs.List.{AllByRecursion}
 use Rattle.qa_base.specs.declared.space.Space.{Space}
@@ -31,9 +31,24 @@ abbrev pub count_to : ℕ → List (ℕ × ℕ) → ℕ
 count_to hi [] = 0
 count_to hi (e ∷ es) = if nat_le e.0 hi then suc (count_to hi es) else count_to hi es
 
--- there is room behind so many for the entries of each of these ranges and below it
+-- how many of them have one from lo to hi
+abbrev pub count_in : (lo hi : ℕ) → List (ℕ × ℕ) → ℕ
+count_in lo hi [] = 0
+count_in lo hi (e ∷ es) =
+    if is_between lo hi e.0 then suc (count_in lo hi es) else count_in lo hi es
+
+-- how many of them the ranges name, counted for each range
+abbrev pub count_named : List (ℕ × ℕ) → List (ℕ × ℕ) → ℕ
+count_named es [] = 0
+count_named es (range ∷ ranges) = count_in range.0 range.1 es + count_named es ranges
+
+-- there is room behind so many for the entries that these ranges name
 abbrev pub HasRoom : (used room : ℕ) → List (ℕ × ℕ) → List (ℕ × ℕ) → Type 0
-HasRoom used room es ranges = AllByRecursion (λ range. used + count_to range.1 es ≤ room) ranges
+HasRoom used room es ranges = used + count_named es ranges ≤ room
+
+-- how many numbers the range names
+abbrev pub width : ℕ × ℕ → ℕ
+width range = range.1 + 1 - range.0
 
 -- the range names none of them
 abbrev pub NamesNone : List (ℕ × ℕ) → ℕ × ℕ → Type 0

@@ -1,7 +1,7 @@
 -- What is kept of the packets, and beside them for each space.
 use Rattle.std.specs.Prelude.{◌≡◌, ◌≤◌, ◌<◌, ◌-◌, ℕ, suc, ◌+◌, ◌⊎◌, ◌&&◌, ◌||◌, Bool, not, nat_le}
 use Rattle.std.specs.Prelude.{nat_lt, true, false, List, [], ◌∷◌, count_by, drop, length, sum_by}
-use Rattle.std.specs.Prelude.{take, if◌then◌else◌}
+use Rattle.std.specs.Prelude.{min, take, if◌then◌else◌}
 use Rattle.std.specs.List.{AllByRecursion}
 use Rattle.qa_base.specs.declared.space.Space.{Space}
 use Rattle.qa_base.specs.declared.space.Space.TheVariants.{Initial, Handshake, App}
@@ -103,6 +103,11 @@ pub record IsSound (dropped : ℕ) (packets : List SentPacket) (losses : Losses)
 -- for so many packets the list of what acknowledgments find keeps its room
 abbrev pub kept_room : ℕ
 kept_room = 1024
+
+-- for how many packets an acknowledgment takes room, where so many at most are open up to its
+-- greatest number, and it names so many
+abbrev pub wanted_room : (most named : ℕ) → ℕ
+wanted_room most named = if nat_lt kept_room most then min most named else most
 
 -- what is kept of room for n packets
 abbrev pub room_kept : ℕ → ℕ

@@ -1,12 +1,12 @@
 //! What an acknowledgment covers, and what of that it newly acknowledges.
 ghost use Rattle.std.specs.Prelude.{◌≡◌, ◌≤◌, ◌+◌, [], filter, length, map, reverse, true, OnErr};
-ghost use Rattle.std.specs.Prelude.{OnOk};
+ghost use Rattle.std.specs.Prelude.{min, sum_by, OnOk};
 ghost use Rattle.std.specs.Vec.{vec_capacity, vec_len};
 ghost use Rattle.qa_base.specs.machine.Numbers.{AreRanges};
 ghost use Rattle.qa_base.specs.values.Limits.{max_lines};
-ghost use Rattle.qa_sent_packets.specs.Covering.{AreApart, HasRoom};
+ghost use Rattle.qa_sent_packets.specs.Covering.{width, AreApart, HasRoom};
 ghost use Rattle.qa_sent_packets.specs.Fates.{is_new};
-ghost use Rattle.qa_sent_packets.specs.Held.{AreOrdered, IsSpacePackets};
+ghost use Rattle.qa_sent_packets.specs.Held.{wanted_room, AreOrdered, IsSpacePackets};
 ghost use Rattle.qa_sent_packets.specs.Naming.{turned};
 ghost use Rattle.qa_sent_packets.specs.Steps.{covered_by};
 
@@ -14,6 +14,7 @@ use crate::named::NamedNumbers;
 use crate::packet::SentPacket;
 use crate::queue::PacketQueue;
 use crate::space_packets::SpacePackets;
+use crate::spare::KEPT_ROOM;
 use qa_base::{Space, Span};
 use std::alloc::AllocError;
 
@@ -96,5 +97,32 @@ fn make_ready(
     }
     let highest = NamedNumbers::nth(spans, falling, spans.len() - 1);
     space_packets.unacknowledged.part(highest.lo().get())?;
-    found.reserve(space_packets.unacknowledged.most_to(highest.hi().get()))
+    let most = space_packets.unacknowledged.most_to(highest.hi().get());
+    found.reserve(room_for(spans, most))
+}
+
+/// For how many packets an acknowledgment takes room, where so many may be open up to its greatest
+/// number: it finds no more than those, nor more than it names. How many it names is asked only
+/// where there may be more than the room that is kept anyway.
+fn room_for(spans: &[Span], most: usize) -> usize
+    ensures { result ≡ wanted_room most (sum_by width spans.now) }
+{
+    if most <= KEPT_ROOM {
+        return most;
+    }
+    count_up_to(spans, most as u64) as usize
+}
+
+/// How many numbers the spans name, counted for each span; or `most`, where that is less. It is a
+/// function of its own, since few acknowledgments ask.
+#[inline(never)]
+fn count_up_to(spans: &[Span], most: u64) -> u64
+    ensures { result ≡ min most (sum_by width spans.now) }
+{
+    let mut count = 0;
+    for span in spans {
+        let named = span.hi().get() - span.lo().get() + 1;
+        count = most.min(named.saturating_add(count));
+    }
+    count
 }

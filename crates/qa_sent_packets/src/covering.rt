@@ -4,7 +4,7 @@ ghost use Rattle.std.specs.Prelude.{◌≡◌, ◌≤◌, ◌<◌, ◌+◌, ◌+
 ghost use Rattle.std.specs.Prelude.{map};
 ghost use Rattle.std.specs.Vec.{vec_capacity, vec_len};
 ghost use Rattle.qa_base.specs.machine.Numbers.{AreRanges};
-ghost use Rattle.qa_sent_packets.specs.Covering.{AreApart, AreClear, HasRoom, count_to, covered_in};
+ghost use Rattle.qa_sent_packets.specs.Covering.{AreApart, AreClear, HasRoom, count_in, covered_in};
 ghost use Rattle.qa_sent_packets.specs.Covering.{first_between, is_new_in};
 ghost use Rattle.qa_sent_packets.specs.Fates.{is_new, is_open};
 ghost use Rattle.qa_sent_packets.specs.Held.{AreOrdered, IsIndexed};
@@ -57,9 +57,11 @@ impl PacketQueue {
             ≡ found.old.items ++ filter (is_new_in space lo hi) self.old.packets.items }
         ensures fewer { length space_packets.new.unacknowledged.entries + 1
             ≡ length space_packets.old.unacknowledged.entries }
-        ensures counted { (hi : ℕ) → number ≤ hi
-            → count_to hi space_packets.new.unacknowledged.entries + 1
-            ≡ count_to hi space_packets.old.unacknowledged.entries }
+        ensures counted { (lo hi : ℕ) → lo ≤ number → number ≤ hi
+            → count_in lo hi space_packets.new.unacknowledged.entries + 1
+            ≡ count_in lo hi space_packets.old.unacknowledged.entries }
+        ensures left { (lo hi : ℕ) → count_in lo hi space_packets.new.unacknowledged.entries
+            ≤ count_in lo hi space_packets.old.unacknowledged.entries }
         ensures len { vec_len found.new ≤ vec_len found.old + 1 }
         ensures capacity { vec_capacity found.new ≡ vec_capacity found.old }
         ensures indexed { IsIndexed space self.new.dropped self.new.packets.items
@@ -86,16 +88,18 @@ impl PacketQueue {
     ) -> u64
         requires indexed { IsIndexed space self.old.dropped self.old.packets.items
             space_packets.old }
-        requires room { vec_len found.old + count_to span.1 space_packets.old.unacknowledged.entries
+        requires room { vec_len found.old
+            + count_in span.0 span.1 space_packets.old.unacknowledged.entries
             ≤ vec_capacity found.old }
         ensures dropped { self.new.dropped ≡ self.old.dropped }
         ensures packets { self.new.packets.items
             ≡ map (covered_in space span.0 span.1) self.old.packets.items }
         ensures new { found.new.items
             ≡ found.old.items ++ filter (is_new_in space span.0 span.1) self.old.packets.items }
-        ensures room { (top : ℕ) → span.1 ≤ top
-            → vec_len found.new + count_to top space_packets.new.unacknowledged.entries
-            ≤ vec_len found.old + count_to top space_packets.old.unacknowledged.entries }
+        ensures room { vec_len found.new ≤ vec_len found.old
+            + count_in span.0 span.1 space_packets.old.unacknowledged.entries }
+        ensures left { (lo hi : ℕ) → count_in lo hi space_packets.new.unacknowledged.entries
+            ≤ count_in lo hi space_packets.old.unacknowledged.entries }
         ensures capacity { vec_capacity found.new ≡ vec_capacity found.old }
         ensures indexed { IsIndexed space self.new.dropped self.new.packets.items
             space_packets.new }
@@ -126,7 +130,8 @@ impl PacketQueue {
     ) -> u64
         requires indexed { IsIndexed space self.old.dropped self.old.packets.items
             space_packets.old }
-        requires room { vec_len found.old + count_to span.1 space_packets.old.unacknowledged.entries
+        requires room { vec_len found.old
+            + count_in span.0 span.1 space_packets.old.unacknowledged.entries
             ≤ vec_capacity found.old }
         requires clear { AreClear span.0 least space_packets.old.unacknowledged.entries }
         ensures dropped { self.new.dropped ≡ self.old.dropped }
@@ -135,9 +140,10 @@ impl PacketQueue {
             ≡ map (covered_in space span.0 span.1) self.old.packets.items }
         ensures new { found.new.items
             ≡ found.old.items ++ filter (is_new_in space span.0 span.1) self.old.packets.items }
-        ensures room { (top : ℕ) → span.1 ≤ top
-            → vec_len found.new + count_to top space_packets.new.unacknowledged.entries
-            ≤ vec_len found.old + count_to top space_packets.old.unacknowledged.entries }
+        ensures room { vec_len found.new ≤ vec_len found.old
+            + count_in span.0 span.1 space_packets.old.unacknowledged.entries }
+        ensures left { (lo hi : ℕ) → count_in lo hi space_packets.new.unacknowledged.entries
+            ≤ count_in lo hi space_packets.old.unacknowledged.entries }
         ensures capacity { vec_capacity found.new ≡ vec_capacity found.old }
         ensures indexed { IsIndexed space self.new.dropped self.new.packets.items
             space_packets.new }

@@ -8,7 +8,7 @@ use std::alloc::Global;
 use std::marker::Model;
 
 /// How many packets the list that is kept has room for at most.
-const KEPT_ROOM: usize = 1_024;
+pub(crate) const KEPT_ROOM: usize = 1_024;
 
 /// An empty list, with the room that an acknowledgment left: for at most 1,024 packets, so that one
 /// large acknowledgment does not keep its memory to the end of the trace. Contracts see the room.

@@ -101,7 +101,8 @@ impl Unacknowledged {
     /// The entries below the number leave the queue for the map, each once in its life.
     /// `AllocError` comes where it is out of memory.
     pub(crate) fn part(&mut self, number: u64) -> Result<(), AllocError>
-        ensures { self.new.entries ≡ self.old.entries }
+        ensures entries { self.new.entries ≡ self.old.entries }
+        ensures rise { EntriesRise self.new.entries }
     {
         self.end = self.end.max(number);
         part_queue(&mut self.gaps, &mut self.recent, number)

@@ -47,7 +47,7 @@ tolerating_nothing c =
     }
 
 same_thresholds : (c : Settings) → NoStricter c (tolerating_nothing c)
-same_thresholds c = (refl, inl refl)
+same_thresholds c = ((refl, refl), inl refl)
 
 never_below : (n : ℕ) → nat_lt n 0 ≡ false
 never_below n = le-ltb n 0 (omega arith)

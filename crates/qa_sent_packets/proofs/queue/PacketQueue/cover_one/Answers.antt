@@ -3,13 +3,13 @@ use Rattle.std.specs.Map.{remove_entry}
 use Rattle.std.specs.BTreeMap.{is_at}
 use Rattle.std.specs.Ordering.{nat_cmp}
 use Rattle.std.specs.VecDeque.{deque_len}
-use Rattle.qa_sent_packets.specs.Covering.{count_to, first_between, is_between, is_new_in}
+use Rattle.qa_sent_packets.specs.Covering.{count_in, first_between, is_between, is_new_in}
 use Rattle.qa_sent_packets.specs.Fates.{is_open}
 use Rattle.qa_sent_packets.specs.Steps.{with_fate}
 use Rattle.qa_sent_packets.specs.declared.fate.Fate.TheVariants.{Acknowledged}
 use Rattle.qa_sent_packets.specs.declared.packet.SentPacket.{SentPacket}
 use Rattle.qa_sent_packets.proofs.Acknowledged.{cover_written}
-use Rattle.qa_sent_packets.proofs.Counted.{count_removed}
+use Rattle.qa_sent_packets.proofs.Counted.{count_left, count_removed}
 use Rattle.qa_sent_packets.proofs.Entries.{found_at, found_here, in_range, removed_length}
 use Rattle.qa_sent_packets.proofs.Newly.{new_written}
 use Rattle.qa_sent_packets.proofs.Sums.{entry_closed, weighed}
@@ -81,6 +81,12 @@ returns-clause-new c = λ lo hi first.
     (new_written c.args.space c.args.self.now.dropped lo hi c.args.number c.args.place at ps p (ap (first_between lo hi) (sym c.requires.indexed.entries) ∙ first) there c.index_mut-packet.ensures.value))
 
 pub returns-clause-counted : goal.returns-clause-counted
-returns-clause-counted c = λ hi high.
-    ap (λ es. count_to hi es + 1) (c.remove.ensures.entries ∙ ap (remove_entry (is_at (nat_cmp c.args.number))) c.take_off.ensures.entries)
-    ∙ count_removed c.args.number hi c.args.space_packets.now.unacknowledged.entries (c.args.number, c.args.place) c.requires.there high
+returns-clause-counted c = λ lo hi low high.
+    ap (λ es. count_in lo hi es + 1) (c.remove.ensures.entries ∙ ap (remove_entry (is_at (nat_cmp c.args.number))) c.take_off.ensures.entries)
+    ∙ count_removed c.args.number lo hi c.args.space_packets.now.unacknowledged.entries (c.args.number, c.args.place) c.requires.there low high
+
+pub returns-clause-left : goal.returns-clause-left
+returns-clause-left c = λ lo hi.
+    let is = ap (count_in lo hi) (c.remove.ensures.entries ∙ ap (remove_entry (is_at (nat_cmp c.args.number))) c.take_off.ensures.entries) in
+    let fewer = count_left (is_at (nat_cmp c.args.number)) lo hi c.args.space_packets.now.unacknowledged.entries in
+    omega (arith, is, fewer)

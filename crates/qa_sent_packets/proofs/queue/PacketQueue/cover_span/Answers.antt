@@ -22,7 +22,7 @@ cover_one-requires-clause-room c =
     let es = c.loop-number.space_packets.unacknowledged.entries in
     let high = c.if-hi-number.false in
     let at = first_alone lo hi es c.in-Some.number c.in-Some.place (first_in lo hi es (c.in-Some.number, c.in-Some.place) (sym c.first_from.ensures.first ∙ c.in-Some.is) (omega (arith, high))) in
-    let some = count_removed c.in-Some.number hi es (c.in-Some.number, c.in-Some.place) at.0 at.2 in
+    let some = count_removed c.in-Some.number lo hi es (c.in-Some.number, c.in-Some.place) at.0 at.1 at.2 in
     let fits = c.loop-number.invariant.fits in
     omega (arith, some, fits)
 
@@ -41,13 +41,13 @@ loop-number-preserved c =
       new = c.cover_one.ensures.new lo hi found ∙ c.loop-number.invariant.new;
       fits = (
           let before = c.loop-number.invariant.fits in
-          let left = c.cover_one.ensures.counted hi at.2 in
-          omega (arith, before, left, c.cover_one.ensures.len, c.cover_one.ensures.capacity));
-      room = λ top high. (
-          let before = c.loop-number.invariant.room top high in
-          let above = at.2 in
-          let left = c.cover_one.ensures.counted top (omega (arith, above, high)) in
-          omega (arith, before, left, c.cover_one.ensures.len));
+          let rest = c.cover_one.ensures.counted lo hi at.1 at.2 in
+          omega (arith, before, rest, c.cover_one.ensures.len, c.cover_one.ensures.capacity));
+      room = (
+          let before = c.loop-number.invariant.room in
+          let rest = c.cover_one.ensures.counted lo hi at.1 at.2 in
+          omega (arith, before, rest, c.cover_one.ensures.len));
+      left = λ a b. (let before = c.loop-number.invariant.left a b in let fewer = c.cover_one.ensures.left a b in omega (arith, before, fewer));
       capacity = c.cover_one.ensures.capacity ∙ c.loop-number.invariant.capacity;
       next = c.cover_one.ensures.next ∙ c.loop-number.invariant.next;
     }

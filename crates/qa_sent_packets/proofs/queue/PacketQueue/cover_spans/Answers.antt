@@ -1,16 +1,15 @@
-use Rattle.std.proofs.Common.{◌≡◌, ◌≤◌, ◌<◌, ◌∙◌, ◌+◌, ℕ, List, [], ◌∷◌, ◌++◌, drop, filter, length, take, sym, refl, ap, subst}
+use Rattle.std.proofs.Common.{◌≡◌, ◌≤◌, ◌<◌, ◌∙◌, ◌+◌, ℕ, List, [], ◌∷◌, ◌++◌, drop, filter, length, take, sym, refl, ap, arith, subst}
 use Rattle.std.specs.List.{AllByRecursion}
 use Rattle.std.specs.Vec.{vec_capacity, vec_len}
-use Rattle.qa_base.specs.machine.Numbers.{AreRanges}
-use Rattle.qa_sent_packets.specs.Covering.{AreApart, HasRoom, NamesNone, count_to, is_new_in}
+use Rattle.qa_sent_packets.specs.Covering.{HasRoom, NamesNone, is_new_in}
 use Rattle.qa_sent_packets.specs.Fates.{is_new}
 use Rattle.qa_sent_packets.specs.Held.{unacknowledged_in}
 use Rattle.qa_sent_packets.specs.Naming.{turned}
 use Rattle.qa_sent_packets.proofs.Acknowledged.{cover_next, take_more}
-use Rattle.qa_sent_packets.proofs.Counted.{apart_drop, behind_high, room_left}
+use Rattle.qa_sent_packets.proofs.Counted.{named_behind, room_here, room_left}
 use Rattle.qa_sent_packets.proofs.Newly.{new_apart, next_above}
 use Rattle.qa_sent_packets.proofs.Opened.{ends_below, new_more}
-use Rattle.qa_sent_packets.proofs.Parts.{each_drop, each_more, each_weaker}
+use Rattle.qa_sent_packets.proofs.Parts.{each_more, each_weaker}
 use Rattle.qa_sent_packets.proofs.Passing.{covers_none, finds_none}
 use Rattle.qa_sent_packets.proofs.Rising.{clear_all}
 use Rattle.qa_sent_packets.proofs.Stretches.{left_from, length_turned}
@@ -29,7 +28,7 @@ loop-at-init c =
       new = c.requires.none ∙ sym (finds_none s c.args.self.now.dropped front ps none);
       forward = each_weaker (NamesNone (unacknowledged_in s c.args.self.now.dropped ps)) (λ (r : ℕ × ℕ). r.0 ≤ r.1) (λ r names. names.0) front none;
       clear = λ r within is. clear_all r.0 c.args.space_packets.now.unacknowledged.entries;
-      room = each_drop (λ range. vec_len c.args.found.now + count_to range.1 c.args.space_packets.now.unacknowledged.entries ≤ vec_capacity c.args.found.now) (turned c.args.falling c.args.spans.now) c.passed-passed.result c.requires.room;
+      room = (let fewer = named_behind c.passed-passed.result c.args.space_packets.now.unacknowledged.entries (turned c.args.falling c.args.spans.now) in let fits = c.requires.room in omega (arith, fewer, fits));
       next = refl;
     }
 
@@ -45,7 +44,7 @@ pass_span-least-requires-clause-room c =
     let i = c.loop-at.at in
     let at : drop i spans ≡ c.nth-span.result ∷ drop (i + 1) spans = left_from c.args.falling c.args.spans.now i c.nth-span.result c.loop-at-test.true c.nth-span.ensures in
     let here : HasRoom (vec_len c.loop-at.found) (vec_capacity c.loop-at.found) c.loop-at.space_packets.unacknowledged.entries (c.nth-span.result ∷ drop (i + 1) spans) = subst (HasRoom (vec_len c.loop-at.found) (vec_capacity c.loop-at.found) c.loop-at.space_packets.unacknowledged.entries) at c.loop-at.invariant.room in
-    here.0
+    room_here (vec_len c.loop-at.found) (vec_capacity c.loop-at.found) c.loop-at.space_packets.unacknowledged.entries c.nth-span.result (drop (i + 1) spans) here
 
 pub loop-at-preserved : goal.loop-at-preserved
 loop-at-preserved c =
@@ -73,10 +72,8 @@ loop-at-preserved c =
       room = (
           let at : drop i spans ≡ span ∷ drop (i + 1) spans = left_from c.args.falling c.args.spans.now i span c.loop-at-test.true is in
           let here : HasRoom (vec_len c.loop-at.found) (vec_capacity c.loop-at.found) c.loop-at.space_packets.unacknowledged.entries (span ∷ drop (i + 1) spans) = subst (HasRoom (vec_len c.loop-at.found) (vec_capacity c.loop-at.found) c.loop-at.space_packets.unacknowledged.entries) at c.loop-at.invariant.room in
-          let apart : AreApart (span ∷ drop (i + 1) spans) = subst AreApart at (apart_drop i spans c.requires.apart) in
-          let ranges : AreRanges (span ∷ drop (i + 1) spans) = subst AreRanges at (each_drop (λ (r : ℕ × ℕ). r.0 ≤ r.1) spans i c.requires.ranges) in
           rw c.pass_span-least.ensures.capacity
           (room_left (vec_len c.loop-at.found) (vec_len c.pass_span-least.new.found) (vec_capacity c.loop-at.found) c.loop-at.space_packets.unacknowledged.entries c.pass_span-least.new.space_packets.unacknowledged.entries span (drop (i + 1) spans)
-          c.pass_span-least.ensures.room (behind_high span (drop (i + 1) spans) apart ranges.1) here.1));
+          c.pass_span-least.ensures.room c.pass_span-least.ensures.left here));
       next = c.pass_span-least.ensures.next ∙ c.loop-at.invariant.next;
     }
