@@ -7,11 +7,15 @@
 #![tactic(auto)]
 
 mod digits;
+mod numbers;
 mod short;
+mod strings;
 mod tokens;
 mod words;
 
+pub use numbers::number;
 pub use short::{short_integer, two_codes};
+pub use strings::any_string;
 pub use tokens::{
     begin_array, begin_object, boolean, colon, comma, end_array, end_object, integer, null,
     open_boolean, open_integer, open_integer_at, string,
