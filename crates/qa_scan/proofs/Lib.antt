@@ -1,4 +1,5 @@
 -- Lemmas of the tokens.
+pub mod Finite
 pub mod Matching
 pub mod Numerals
 pub mod Tops
