@@ -5,3 +5,4 @@ pub mod Numerals
 pub mod Tops
 pub mod Lexing
 pub mod Lanes
+pub mod Passing
