@@ -14,7 +14,7 @@ use Rattle.json.specs.Lex.{token, string_token, between, in_string, lex}
 use Rattle.qa_format.specs.format.Simple.{is_ascii}
 use Rattle.qa_format.proofs.format.Compact.{IsUtf8-is_ascii}
 use Rattle.qa_scan.specs.Lexes.{Lexes, IsString, is_plain}
-use Rattle.qa_scan.specs.Strings.{Passes, IsPart, IsUnit, IsUnitAt, is_letter, is_short}
+use Rattle.qa_scan.specs.Strings.{Passes, IsPart, IsUnit, IsUnitAt, is_high, is_short}
 use Rattle.qa_scan.proofs.Lexing.{inside, plain_byte}
 
 -- ---- one after another
@@ -92,22 +92,23 @@ part_plain bytes i j before within is =
       passes = passes_then before.passes (subst (λ r. Passes r (drop (j + 1) bytes)) (sym (drop_more bytes j 0 within)) one);
     }
 
-letters_stand : (s : List ℕ) → list_all is_letter s ≡ true → AllStand s
-letters_stand [] h = tt
-letters_stand (x ∷ s) h =
+high_stand : (s : List ℕ) → list_all is_high s ≡ true → AllStand s
+high_stand [] h = tt
+high_stand (x ∷ s) h =
     let parts = and_parts _ _ h in
-    let high : 127 ≤ x = leb-true 127 x parts.0 in
-    ((omega arith, (λ e. omega arith, λ e. omega arith)), letters_stand s parts.1)
+    let above : 127 ≤ x = leb-true 127 x parts.0 in
+    ((omega arith, (λ e. omega arith, λ e. omega arith)), high_stand s parts.1)
 
-pub part_letters : (bytes : List ℕ) (i n : ℕ) → i + n ≤ length bytes → list_all is_letter (take n (drop i bytes)) ≡ true → IsUtf8 (take n (drop i bytes)) → IsPart bytes i (i + n)
-part_letters bytes i n within letters utf8 =
+-- some bytes above printable ASCII, which are UTF-8
+pub part_high : (bytes : List ℕ) (i n : ℕ) → i + n ≤ length bytes → list_all is_high (take n (drop i bytes)) ≡ true → IsUtf8 (take n (drop i bytes)) → IsPart bytes i (i + n)
+part_high bytes i n within high utf8 =
     let s = take n (drop i bytes) in
     let behind : drop n (drop i bytes) ≡ drop (i + n) bytes = drop-drop n i bytes in
     let whole : s ++ drop (i + n) bytes ≡ drop i bytes = ap (λ r. s ++ r) (sym behind) ∙ take-append-drop n (drop i bytes) in
     record {
       after = omega arith;
       within = within;
-      passes = subst (λ r. Passes r (drop (i + n) bytes)) whole (run_passes s (drop (i + n) bytes) (letters_stand s letters) utf8);
+      passes = subst (λ r. Passes r (drop (i + n) bytes)) whole (run_passes s (drop (i + n) bytes) (high_stand s high) utf8);
     }
 
 -- ---- escapes
@@ -262,6 +263,7 @@ part_single bytes i unit h outside = record {
     no_high : (unit < 55296) ⊎ (57344 ≤ unit) → is_high_surrogate unit ≡ false
     no_high (inl e) = grind (arith, e)
     no_high (inr e) = grind (arith, e)
+
     no_low : (unit < 55296) ⊎ (57344 ≤ unit) → is_low_surrogate unit ≡ false
     no_low (inl e) = grind (arith, e)
     no_low (inr e) = grind (arith, e)

@@ -18,9 +18,9 @@ pub record IsPart (bytes : List ℕ) (i j : ℕ) : Type 0 where
   pub within : j ≤ length bytes
   pub passes : Passes (drop i bytes) (drop j bytes)
 
--- a byte of a character that is not ASCII, or the last one of ASCII
-abbrev pub is_letter : ℕ → Bool
-is_letter b = nat_le 127 b
+-- a byte above printable ASCII
+abbrev pub is_high : ℕ → Bool
+is_high b = nat_le 127 b
 
 -- a byte that may stand alone behind a backslash
 abbrev pub is_short : ℕ → Bool

@@ -1,22 +1,22 @@
 //! Strings of JSON whose content is not asked for.
-ghost use Rattle.std.specs.Prelude.{◌≡◌, ◌≤◌, ◌<◌, ◌+◌, true, length, drop, take, get_or, IfSome};
-ghost use Rattle.std.specs.Char.{digit_value, is_digit};
+ghost use Rattle.std.specs.Prelude.{◌≡◌, ◌≤◌, ◌<◌, ◌+◌, true, length, take, get_or, IfSome};
+ghost use Rattle.std.specs.Char.{digit_value};
 ghost use Rattle.std.specs.List.{list_all};
 ghost use Rattle.qa_scan.specs.Lexes.{IsString};
 ghost use Rattle.qa_scan.specs.Strings.{IsPart, IsUnit, IsUnitAt};
-ghost use Rattle.qa_scan.specs.Strings.{is_letter as is_letter_byte, is_short as is_short_byte};
+ghost use Rattle.qa_scan.specs.Strings.{is_high as is_high_byte, is_short as is_short_byte};
 
 use crate::tokens::is_plain;
 use crate::words::after_byte;
 
-/// The first unit of a pair is at least this, and the second of one above it by 1,024.
-const FIRST_OF_PAIR: u32 = 0xd800;
+/// The lowest code unit that begins a pair of surrogates.
+const FIRST_SURROGATE: u32 = 0xd800;
 
-/// The second unit of a pair is at least this.
-const SECOND_OF_PAIR: u32 = 0xdc00;
+/// The lowest code unit that ends such a pair.
+const SECOND_SURROGATE: u32 = 0xdc00;
 
-/// Above the units of pairs.
-const BEHIND_PAIRS: u32 = 0xe000;
+/// The lowest code unit behind the surrogates.
+const BEHIND_SURROGATES: u32 = 0xe000;
 
 /// Where the bytes that stand for themselves end, from a place on.
 #[inline(always)]
@@ -34,22 +34,22 @@ fn plain_end(bytes: &[u8], start: usize) -> usize
     i
 }
 
-/// A byte of a character that is not ASCII, or of the last one of ASCII.
+/// Whether the byte is above printable ASCII.
 #[inline(always)]
-fn is_letter(byte: u8) -> bool
-    ensures { result ≡ is_letter_byte byte }
+fn is_high(byte: u8) -> bool
+    ensures { result ≡ is_high_byte byte }
 {
     127 <= byte
 }
 
 /// How many such bytes stand at the front.
-fn letters_ahead(bytes: &[u8]) -> usize
+fn high_ahead(bytes: &[u8]) -> usize
     ensures within { result ≤ length bytes.now }
-    ensures letters { list_all is_letter_byte (take result bytes.now) ≡ true }
+    ensures high { list_all is_high_byte (take result bytes.now) ≡ true }
 {
     let mut i = 0;
     while i < bytes.len() {
-        if !is_letter(bytes[i]) {
+        if !is_high(bytes[i]) {
             break;
         }
         i += 1;
@@ -57,23 +57,23 @@ fn letters_ahead(bytes: &[u8]) -> usize
     i
 }
 
-/// Where such bytes end, from a place on, if they are UTF-8.
-fn letters_end(bytes: &[u8], place: usize) -> Option<usize>
+/// Where such bytes end, from a place on, if there are any and they are UTF-8.
+fn high_end(bytes: &[u8], place: usize) -> Option<usize>
     requires { place ≤ length bytes.now }
     ensures { IfSome result (λ end. IsPart bytes.now place end × (place < end)) }
 {
     let (_, behind) = bytes.split_at(place);
-    let (letters, _) = behind.split_at(letters_ahead(behind));
-    if letters.is_empty() {
+    let (high, _) = behind.split_at(high_ahead(behind));
+    if high.is_empty() {
         return None;
     }
-    let Ok(_) = str::from_utf8(letters) else {
+    let Ok(_) = str::from_utf8(high) else {
         return None;
     };
-    Some(place + letters.len())
+    Some(place + high.len())
 }
 
-/// Whether an escape may have the byte behind its backslash, and nothing more.
+/// Whether the byte alone may stand behind a backslash (RFC 8259, section 7).
 fn is_short(byte: u8) -> bool
     ensures { result ≡ is_short_byte byte }
 {
@@ -117,21 +117,21 @@ fn escaped_unit(bytes: &[u8], place: usize) -> Option<u32>
     unit(bytes, place + 2)
 }
 
-/// Where an escape ends that gives the code of its character, or two of them for a pair of
-/// surrogates.
+/// Where an escape ends that has a code unit, or a pair of surrogates, each with its own escape. A
+/// surrogate stands for nothing alone.
 fn code_end(bytes: &[u8], place: usize) -> Option<usize>
     requires { place ≤ length bytes.now }
     ensures { IfSome result (λ end. IsPart bytes.now place end × (place < end)) }
 {
     let unit = escaped_unit(bytes, place)?;
-    if unit < FIRST_OF_PAIR || BEHIND_PAIRS <= unit {
+    if unit < FIRST_SURROGATE || BEHIND_SURROGATES <= unit {
         return Some(place + 6);
     }
-    if SECOND_OF_PAIR <= unit {
+    if SECOND_SURROGATE <= unit {
         return None;
     }
     let second = escaped_unit(bytes, place + 6)?;
-    if second < SECOND_OF_PAIR || BEHIND_PAIRS <= second {
+    if second < SECOND_SURROGATE || BEHIND_SURROGATES <= second {
         return None;
     }
     Some(place + 12)
@@ -151,7 +151,7 @@ fn escape_end(bytes: &[u8], place: usize) -> Option<usize>
     }
 }
 
-/// Where an escape or bytes beyond printable ASCII end.
+/// Where an escape or bytes above printable ASCII end. It stands apart, since few strings have any.
 #[inline(never)]
 fn part_end(bytes: &[u8], place: usize) -> Option<usize>
     requires { place < length bytes.now }
@@ -160,7 +160,7 @@ fn part_end(bytes: &[u8], place: usize) -> Option<usize>
     if bytes[place] == b'\\' {
         escape_end(bytes, place)
     } else {
-        letters_end(bytes, place)
+        high_end(bytes, place)
     }
 }
 

@@ -1,12 +1,12 @@
 use Rattle.std.proofs.Common.{◌-◌, ◌≤◌, ◌≡◌, true, length, take}
 use Rattle.std.specs.List.{list_all}
-use Rattle.qa_scan.specs.Strings.{is_letter}
-use Rattle.qa_scan.proofs.strings.letters_ahead.Given as goal
+use Rattle.qa_scan.specs.Strings.{is_high}
+use Rattle.qa_scan.proofs.strings.high_ahead.Given as goal
 
 abbrev pub invariant-loop-i : goal.invariant-loop-i
 invariant-loop-i l = record {
   within : l.i ≤ length l.bytes;
-  letters : list_all is_letter (take l.i l.bytes) ≡ true;
+  high : list_all is_high (take l.i l.bytes) ≡ true;
 }
 
 abbrev pub decreases-loop-i : goal.decreases-loop-i
