@@ -7,8 +7,8 @@ use Rattle.json.specs.Json.{Json}
 use Rattle.json.specs.Lex.{Lexeme, token, comma, colon, between, lex}
 use Rattle.json.specs.Token as tokens
 use Rattle.json.specs.Tree.{depth}
-use Rattle.serde_json.specs.Data.{Data}
-use Rattle.serde_json.specs.Read.{of_json}
+use Rattle.serde_json.specs.Data.{Data, Num}
+use Rattle.serde_json.specs.Read.{number_of, of_json}
 
 -- the bytes are these lexemes and then what the rest is, and they are text in UTF-8 where the rest
 -- is
@@ -33,6 +33,20 @@ is_plain b = nat_le 32 b && nat_le b 126 && not (b == 34) && not (b == 92)
 -- the bytes are this text in quotes, and the rest
 abbrev pub IsQuoted : List ℕ → List ℕ → List ℕ → Type 0
 IsQuoted text bytes rest = bytes ≡ 34 ∷ (text ++ 34 ∷ rest)
+
+-- the bytes are a string, and the rest
+pub record IsString (bytes rest : List ℕ) : Type 0 where
+  pub text : List ℕ
+  pub lexed : Lexes bytes rest (token (tokens.string text) ∷ [])
+
+-- ---- numbers
+
+-- the bytes are a number that serde_json reads, and the rest
+pub record IsNumber (bytes rest : List ℕ) : Type 0 where
+  pub text : List ℕ
+  pub number : Num
+  pub reads : number_of text ≡ Some number
+  pub lexed : Lexes bytes rest (token (tokens.number text) ∷ [])
 
 -- ---- values
 
