@@ -24,9 +24,10 @@ use Rattle.qa_format.specs.format.Proper.{IsWord}
 use Rattle.qa_format.proofs.format.AnyOrder.{get_put_other}
 use Rattle.qa_format.proofs.format.ProperReadings.{reading_fits}
 use Rattle.qa_fast_reader.specs.declared.found.Found.{Found}
-use Rattle.qa_scan.specs.Lexes.{Lexes, lexemes, members_lexemes, is_plain, IsQuoted, IsKey, IsValueOf, IsValue}
+use Rattle.qa_scan.specs.Lexes.{Lexes, lexemes, members_lexemes, is_plain, IsQuoted, IsKey, deepest, IsValueOf, IsValue}
 use Rattle.qa_fast_reader.specs.Found.{Holds, Keeps, Puts, Takes, TakesNothing, Follows, Ends, EndsIf, PutsIf, SaysLine, Reads, IsLineOf, IsMember, FollowsMembers, nothing, is_known}
-use Rattle.qa_scan.proofs.Lexing.{then, lexes_quoted, lexes_colon, lexes_comma, lexes_begin_object, lexes_end_object}
+use Rattle.qa_scan.proofs.Lexing.{lexes_quoted, lexes_colon, lexes_comma, lexes_begin_object, lexes_end_object}
+use Rattle.qa_fast_reader.proofs.Items.{string_member}
 use Rattle.qa_fast_reader.proofs.Reading.{json_of-lexemes, not_blank}
 
 -- ---- values
@@ -48,12 +49,7 @@ null_value bytes rest lexed = record { form = form.null; reads = refl; shallow =
 -- a key with its colon, and a value
 pub is_member : (key : List ℕ) (value : Data) (bytes middle behind rest : List ℕ) → list_all is_plain key ≡ true → IsQuoted key bytes middle → Lexes middle behind (colon ∷ [])
     → IsValueOf value behind rest → IsMember key value bytes rest
-is_member key value bytes middle behind rest all_plain quoted at_colon is = record {
-  form = is.form;
-  reads = is.reads;
-  shallow = is.shallow;
-  lexed = then (lexes_quoted key bytes middle all_plain quoted) (then at_colon is.lexed);
-}
+is_member = string_member deepest
 
 pub takes : (key : List ℕ) (old new : Found) (bytes behind rest : List ℕ) → list_all is_plain key ≡ true → IsKey key bytes behind → Puts key old new behind rest → Takes old new bytes rest
 takes key old new bytes behind rest all_plain is puts = record {
@@ -133,7 +129,7 @@ begins bytes rest opened = record { before = no_members; holds = nothing_holds; 
 
 -- a member before others
 member_then : (key : List ℕ) (value : Data) (old : Members) (bytes rest behind : List ℕ) → FollowsMembers old bytes rest → (one : IsMember key value rest behind) (ms : form.Members) (all : Members)
-    → tree_depth ms ≤ 2 → of_members ms (put key value old) ≡ Some all → lex between behind ≡ members_lexemes true ms → IsUtf8 behind
+    → tree_depth ms ≤ deepest → of_members ms (put key value old) ≡ Some all → lex between behind ≡ members_lexemes true ms → IsUtf8 behind
     → json_of bytes ≡ Ok (json.object all)
 member_then key value old bytes rest behind before one ms all shallow put_in lexed utf8 =
     before key one.form ms all (omega (arith, one.shallow, shallow))

@@ -5,14 +5,13 @@ use Rattle.std.specs.List.{AllByRecursion}
 use Rattle.std.specs.Str.{IsUtf8}
 use Rattle.json.specs.Json as form
 use Rattle.json.specs.Json.{Json}
-use Rattle.json.specs.Lex.{token, colon, between, lex}
-use Rattle.json.specs.Token as tokens
+use Rattle.json.specs.Lex.{between, lex}
 use Rattle.json.specs.Word.{ends_word}
-use Rattle.json.specs.Tree.{depth, members_depth}
+use Rattle.json.specs.Tree.{members_depth}
 use Rattle.serde_json.specs.Data as json
 use Rattle.serde_json.specs.Data.{Data, Members, put}
 use Rattle.serde_json.specs.Find.{get_member}
-use Rattle.serde_json.specs.Read.{of_json, of_members}
+use Rattle.serde_json.specs.Read.{of_members}
 use Rattle.qa_base.specs.declared.event.Event.{Event}
 use Rattle.qa_format.specs.declared.line.Line.{Line}
 use Rattle.qa_format.specs.declared.line.Line.TheVariants as line
@@ -26,8 +25,9 @@ use Rattle.qa_format.specs.format.Proper.{IsRange, AreWords}
 use Rattle.qa_format.specs.format.Reading.{json_of, object_says, reader_named, reading}
 use Rattle.qa_format.specs.format.Written.{integer, string, boolean, line_fits}
 use Rattle.qa_fast_reader.specs.declared.found.Found.{Found}
-use Rattle.qa_scan.specs.Lexes.{Lexes, lexemes, members_lexemes, IsValueOf}
+use Rattle.qa_scan.specs.Lexes.{members_lexemes, deepest, IsValueOf}
 use Rattle.qa_fast_reader.specs.Ranges.{ranges_data}
+use Rattle.qa_fast_reader.specs.Items.{IsMemberWithin}
 
 -- ---- values
 
@@ -113,11 +113,8 @@ pub record Puts (key : List ℕ) (old new : Found) (bytes rest : List ℕ) : Typ
   pub keeps : Keeps key value old new
 
 -- the bytes are this key, a text of its value, and the rest
-pub record IsMember (key : List ℕ) (value : Data) (bytes rest : List ℕ) : Type 0 where
-  pub form : Json
-  pub reads : of_json form ≡ Some value
-  pub shallow : depth form ≤ 2
-  pub lexed : Lexes bytes rest (token (tokens.string key) ∷ colon ∷ lexemes form)
+abbrev pub IsMember : List ℕ → Data → List ℕ → List ℕ → Type 0
+IsMember key value bytes rest = IsMemberWithin deepest key value bytes rest
 
 -- the bytes are a key, its value and the rest, and what was found is then found of this key too
 pub record Takes (old new : Found) (bytes rest : List ℕ) : Type 0 where
@@ -137,7 +134,7 @@ TakesNothing bytes rest = (f : Found) → Takes f f bytes rest
 abbrev pub FollowsMembers : Members → List ℕ → List ℕ → Type 0
 FollowsMembers before bytes rest =
     (key : List ℕ) (j : Json) (ms : form.Members) (all : Members)
-    → members_depth (form.member key j ms) ≤ 2
+    → members_depth (form.member key j ms) ≤ deepest
     → of_members (form.member key j ms) before ≡ Some all
     → lex between rest ≡ members_lexemes false (form.member key j ms) → IsUtf8 rest
     → json_of bytes ≡ Ok (json.object all)
