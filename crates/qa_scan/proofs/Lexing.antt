@@ -88,13 +88,13 @@ space_more bytes i before within blank =
 -- ---- strings
 
 -- what is known of a plain byte
-record Plain (x : ℕ) : Type 0 where
-  high : 32 ≤ x
-  low : x ≤ 126
-  no_quote : x ≡ 34 → ⊥
-  no_backslash : x ≡ 92 → ⊥
+pub record Plain (x : ℕ) : Type 0 where
+  pub high : 32 ≤ x
+  pub low : x ≤ 126
+  pub no_quote : x ≡ 34 → ⊥
+  pub no_backslash : x ≡ 92 → ⊥
 
-plain_byte : (x : ℕ) → is_plain x ≡ true → Plain x
+pub plain_byte : (x : ℕ) → is_plain x ≡ true → Plain x
 plain_byte x h =
     let outer = and_parts _ _ h in
     let inner = and_parts _ _ outer.0 in
@@ -106,7 +106,7 @@ plain_byte x h =
       no_backslash = eqb-false x 92 (not-true _ outer.1);
     }
 
-inside : (o s : Bool) (x : ℕ) (r : List ℕ) (k : Mode → List Lexeme) → lex_byte in_string (cond o operator (cond s space other)) x r k ≡ k in_string
+pub inside : (o s : Bool) (x : ℕ) (r : List ℕ) (k : Mode → List Lexeme) → lex_byte in_string (cond o operator (cond s space other)) x r k ≡ k in_string
 inside true s x r k = refl
 inside false true x r k = refl
 inside false false x r k = refl

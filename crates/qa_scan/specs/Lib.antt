@@ -1,3 +1,4 @@
 pub mod Digits
 pub mod Lexes
 pub mod Short
+pub mod Strings

@@ -3,7 +3,7 @@
 //! Each function is given bytes and gives what follows the token that they begin with, or nothing
 //! where they begin with none that it reads. White space is read as the form of a token asks for
 //! it, integers of up to sixteen digits at once, and strings where they are printable ASCII without
-//! an escape.
+//! an escape. Numbers and strings of any other form are passed over, and their values are not read.
 #![tactic(auto)]
 
 mod digits;

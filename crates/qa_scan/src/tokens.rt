@@ -150,7 +150,7 @@ pub fn comma(bytes: &[u8]) -> Option<&[u8]>
 
 /// Whether an integer or a literal ends before these bytes.
 #[inline(always)]
-fn ends_word(bytes: &[u8]) -> bool
+pub fn ends_word(bytes: &[u8]) -> bool
     ensures { result ≡ true → word.ends_word bytes.now ≡ true }
 {
     let [next, ..] = bytes else {
@@ -241,7 +241,7 @@ pub fn null(bytes: &[u8]) -> Option<&[u8]>
 
 /// A byte that stands for itself in a string, and is printable ASCII.
 #[inline(always)]
-fn is_plain(byte: u8) -> bool
+pub fn is_plain(byte: u8) -> bool
     ensures { result ≡ is_plain_byte byte }
 {
     b' ' <= byte && byte <= b'~' && byte != b'"' && byte != b'\\'
