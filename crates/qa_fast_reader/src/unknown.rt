@@ -62,7 +62,8 @@ fn list(bytes: &[u8], depth: u64) -> Option<&[u8]>
 #[cycle(values)]
 fn list_end(bytes: &[u8], depth: u64) -> Option<&[u8]>
     ensures { (d : ℕ) (whole : List ℕ) (seen : List Data) → depth < d
-        → FollowsItems d seen whole bytes.now → IfSome result (λ rest. IsSomeValue d whole rest.now) }
+        → FollowsItems d seen whole bytes.now
+        → IfSome result (λ rest. IsSomeValue d whole rest.now) }
 {
     let mut rest = bytes;
     for i in 0..u64::MAX {
