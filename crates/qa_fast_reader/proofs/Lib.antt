@@ -3,6 +3,7 @@ pub mod Reading
 pub mod Spelling
 pub mod Finding
 pub mod Taking
+pub mod Present
 pub mod Saying
 pub mod Listing
 pub mod Items

@@ -1,5 +1,5 @@
 -- The JSON values that are made of a flat object.
-use Rattle.std.proofs.Common.{◌≡◌, ◌∙◌, ◌<◌, ◌^◌, ℕ, List, [], ◌∷◌, ◌++◌, length, Bool, true, Ok, String, BTreeMap, Vec, Global, map, string_bytes, string_cmp, decimal, refl, sym, ap, subst, rules}
+use Rattle.std.proofs.Common.{◌≡◌, ◌∙◌, ◌<◌, ◌^◌, ℕ, List, [], ◌∷◌, ◌++◌, length, Bool, true, Ok, String, BTreeMap, Vec, Global, map, string_bytes, string_cmp, decimal, refl, sym, ap, subst, arith, rules}
 use Rattle.std.specs.BTreeMap.{insert_entry}
 use Rattle.std.specs.List.{list_all}
 use Rattle.json.specs.Lex.{token, comma, colon}
@@ -12,7 +12,7 @@ use Rattle.serde_json.specs.declared.value.Value.{Value, the_lemmas}
 use Rattle.serde_json.proofs.Views.{Entry, view-Array, view-Object, members_view-insert_entry}
 use Rattle.qa_format.specs.format.Reading.{json_of}
 use Rattle.qa_format.specs.format.Written.{integer, string, boolean}
-use Rattle.qa_scan.specs.Lexes.{Lexes, is_plain, IsQuoted, IsValueOf}
+use Rattle.qa_scan.specs.Lexes.{Lexes, is_plain, IsQuoted, deepest, IsValueOf}
 use Rattle.qa_fast_reader.specs.Found.{FollowsMembers, PutsMember}
 use Rattle.qa_fast_reader.specs.Items.{IsSimpleOf, FollowsItems, items_after}
 use Rattle.qa_fast_reader.proofs.Items.{simple_integer, simple_boolean, simple_string, simple_null, empty_is_value, items_go_on, items_end}
@@ -54,17 +54,17 @@ all_seen : (ds : List Data) → items_after ds json.no_items ≡ items_of ds
 all_seen [] = refl
 all_seen (d ∷ ds) = ap (json.item d) (all_seen ds)
 
-pub made_go_on : (v : Value) (old new : List Value) (whole rest next more : List ℕ) → FollowsItems (map view old) whole rest → IsSimpleOf (view v) rest next → new ≡ old ++ v ∷ [] → Lexes next more (comma ∷ [])
-    → FollowsItems (map view new) whole more
+pub made_go_on : (v : Value) (old new : List Value) (whole rest next more : List ℕ) → FollowsItems deepest (map view old) whole rest → IsSimpleOf (view v) rest next → new ≡ old ++ v ∷ [] → Lexes next more (comma ∷ [])
+    → FollowsItems deepest (map view new) whole more
 made_go_on v old new whole rest next more before one is parted =
-    let P : List Data → Type 0 = λ ds. FollowsItems ds whole more in
-    subst P (sym (ap (map view) is ∙ views_more old v)) (items_go_on (view v) (map view old) whole rest next more before one parted)
+    let P : List Data → Type 0 = λ ds. FollowsItems deepest ds whole more in
+    subst P (sym (ap (map view) is ∙ views_more old v)) (items_go_on deepest 0 (view v) (map view old) whole rest next more (omega arith) before one parted)
 
-pub made_end : (v : Value) (old new : List Value) (whole rest next more : List ℕ) → FollowsItems (map view old) whole rest → IsSimpleOf (view v) rest next → new ≡ old ++ v ∷ [] → Lexes next more (token tokens.end_array ∷ [])
+pub made_end : (v : Value) (old new : List Value) (whole rest next more : List ℕ) → FollowsItems deepest (map view old) whole rest → IsSimpleOf (view v) rest next → new ≡ old ++ v ∷ [] → Lexes next more (token tokens.end_array ∷ [])
     → IsValueOf (json.array (items_view new)) whole more
 made_end v old new whole rest next more before one is closed =
     let P : json.Items → Type 0 = λ ds. IsValueOf (json.array ds) whole more in
-    subst P (all_seen (map view old ++ view v ∷ []) ∙ ap items_of (sym (ap (map view) is ∙ views_more old v))) (items_end (view v) (map view old) whole rest next more before one closed)
+    subst P (all_seen (map view old ++ view v ∷ []) ∙ ap items_of (sym (ap (map view) is ∙ views_more old v))) (items_end deepest 0 (view v) (map view old) whole rest next more (omega arith) before one closed)
 
 pub list_made : (v : Vec Value Global) (whole rest : List ℕ) → IsValueOf (json.array (items_view v.items)) whole rest → IsValueOf (view (value.Array v)) whole rest
 list_made v whole rest is = let P : Data → Type 0 = λ d. IsValueOf d whole rest in subst P (sym (view-Array v)) is
@@ -72,7 +72,7 @@ list_made v whole rest is = let P : Data → Type 0 = λ d. IsValueOf d whole re
 pub empty_made : (v : Vec Value Global) (bytes inside rest : List ℕ) → v.items ≡ [] → Lexes bytes inside (token tokens.begin_array ∷ []) → Lexes inside rest (token tokens.end_array ∷ []) → IsValueOf (view (value.Array v)) bytes rest
 empty_made v bytes inside rest none opened closed =
     let P : Data → Type 0 = λ d. IsValueOf d bytes rest in
-    subst P (sym (view-Array v ∙ ap (λ vs. json.array (items_view vs)) none)) (empty_is_value bytes inside rest opened closed)
+    subst P (sym (view-Array v ∙ ap (λ vs. json.array (items_view vs)) none)) (empty_is_value deepest bytes inside rest (omega arith) opened closed)
 
 -- ---- members
 

@@ -14,7 +14,7 @@ use Rattle.json.proofs.Printed.Trees.{value-json_tokens}
 use Rattle.serde_json.specs.Data.{Data, object, Members, no_members}
 use Rattle.serde_json.specs.Read.{of_json, of_members, read}
 use Rattle.qa_format.specs.format.Reading.{json_of, is_blank}
-use Rattle.qa_scan.specs.Lexes.{lexemes, items_lexemes, members_lexemes}
+use Rattle.qa_scan.specs.Lexes.{lexemes, items_lexemes, members_lexemes, deepest}
 
 -- ---- the tokens of a value's lexemes
 
@@ -82,7 +82,7 @@ unfolding punctuate
 object_tokens bytes ms lexed =
     ap (punctuate fresh) (lexed ∙ sym (append-nil (token Token.begin_object ∷ members_lexemes false ms))) ∙ value_tokens (form.object ms) false [] refl ∙ append-nil (json_tokens (form.object ms))
 
-reads : (bytes : List ℕ) (ms : form.Members) (all : Members) → members_depth ms ≤ 2 → of_members ms no_members ≡ Some all
+reads : (bytes : List ℕ) (ms : form.Members) (all : Members) → members_depth ms ≤ deepest → of_members ms no_members ≡ Some all
     → lex between bytes ≡ token Token.begin_object ∷ members_lexemes false ms → read bytes ≡ Some (object all)
 reads bytes ms all shallow put lexed =
     let j = form.object ms in
@@ -91,7 +91,7 @@ reads bytes ms all shallow put lexed =
     ∙ ap (option_map object) put
 
 -- the bytes are the object of these members
-pub json_of-lexemes : (bytes : List ℕ) (ms : form.Members) (all : Members) → members_depth ms ≤ 2 → of_members ms no_members ≡ Some all
+pub json_of-lexemes : (bytes : List ℕ) (ms : form.Members) (all : Members) → members_depth ms ≤ deepest → of_members ms no_members ≡ Some all
     → lex between bytes ≡ token Token.begin_object ∷ members_lexemes false ms → IsUtf8 bytes → json_of bytes ≡ Ok (object all)
 unfolding json_of
 json_of-lexemes bytes ms all shallow put lexed utf8 = rw (is_utf8-from_IsUtf8 bytes utf8, reads bytes ms all shallow put lexed) refl

@@ -14,7 +14,7 @@ use Rattle.qa_base.specs.values.Events.{fits, has_ranges}
 use Rattle.qa_base.specs.values.Limits.{max_time, max_packet_number, in_range}
 use Rattle.qa_format.specs.format.Proper.{IsRange}
 use Rattle.qa_format.specs.format.Written.{integer, boolean}
-use Rattle.qa_format.proofs.format.KeysFound.{sent_found, ack_found, lost_found, timer_found, discard_found, confirmed_found, keys_found, metrics_found}
+use Rattle.qa_fast_reader.proofs.Present.{sent_given, ack_given, lost_given, timer_given, discard_given, confirmed_given, keys_given, metrics_given}
 use Rattle.qa_fast_reader.specs.declared.found.Found.{Found}
 use Rattle.qa_base.specs.declared.line_kind.LineKind.TheVariants as kinds
 use Rattle.qa_fast_reader.specs.Found.{line_kind_data, space_data, kind_data, Says}
@@ -52,7 +52,7 @@ says_sent f packet m is_event time_is is_space is_number in_number is_size is_el
     let number_is = range_is max_packet_number m packet.number in_number in
     let P : Permission → Type 0 = λ l. fits (Sent (record packet { permission = l })) ≡ true → Says f (Sent (record packet { permission = l })) in
     subst P (sym is_permission) (λ fit ms h.
-    sent_found ms packet f.permission
+    sent_given ms packet f.permission
     (h.event ∙ ap (option_map line_kind_data) is_event)
     (h.time ∙ ap (option_map integer) time_is.0)
     (h.space ∙ ap (option_map space_data) is_space)
@@ -70,7 +70,7 @@ pub says_ack : (f : Found) (ack : Acknowledgment)
 says_ack f ack is_event time_is is_space is_ranges is_delay small is_app_limited =
     let says : Says f (Ack (record ack { delay = unwrap_or f.delay 0; app_limited = unwrap_or f.app_limited false })) = λ ms h.
     let are = ranges_are f.ranges ack.ranges h.are_ranges is_ranges in
-    ack_found ms ack f.delay f.app_limited
+    ack_given ms ack f.delay f.app_limited
     (h.event ∙ ap (option_map line_kind_data) is_event)
     (h.time ∙ ap (option_map integer) time_is.0)
     (h.space ∙ ap (option_map space_data) is_space)
@@ -86,7 +86,7 @@ pub says_lost : (f : Found) (t : ℕ) (s : Space) (rs : List (ℕ × ℕ))
     → Says f (Lost t s rs)
 says_lost f t s rs is_event time_is is_space is_ranges = λ ms h.
     let are = ranges_are f.ranges rs h.are_ranges is_ranges in
-    lost_found ms t s rs
+    lost_given ms t s rs
     (h.event ∙ ap (option_map line_kind_data) is_event)
     (h.time ∙ ap (option_map integer) time_is.0)
     (h.space ∙ ap (option_map space_data) is_space)
@@ -97,7 +97,7 @@ pub says_timer : (f : Found) (t : ℕ) (k : TimerKind) (s : Space)
     → f.event ≡ Some kinds.Timer → (f.time ≡ Some t) × (t ≤ max_time) → f.kind ≡ Some k → f.space ≡ Some s
     → Says f (Timer t k s)
 says_timer f t k s is_event time_is is_kind is_space = λ ms h.
-    timer_found ms t k s
+    timer_given ms t k s
     (h.event ∙ ap (option_map line_kind_data) is_event)
     (h.time ∙ ap (option_map integer) time_is.0)
     (h.kind ∙ ap (option_map kind_data) is_kind)
@@ -108,7 +108,7 @@ pub says_discard : (f : Found) (t : ℕ) (s : Space)
     → f.event ≡ Some kinds.Discard → (f.time ≡ Some t) × (t ≤ max_time) → f.space ≡ Some s → fits (Discard t s) ≡ true
     → Says f (Discard t s)
 says_discard f t s is_event time_is is_space fitting = λ ms h.
-    discard_found ms t s
+    discard_given ms t s
     (h.event ∙ ap (option_map line_kind_data) is_event)
     (h.time ∙ ap (option_map integer) time_is.0)
     (h.space ∙ ap (option_map space_data) is_space)
@@ -116,16 +116,16 @@ says_discard f t s is_event time_is is_space fitting = λ ms h.
 
 pub says_confirmed : (f : Found) (t : ℕ) → f.event ≡ Some kinds.Confirmed → (f.time ≡ Some t) × (t ≤ max_time) → Says f (Confirmed t)
 says_confirmed f t is_event time_is = λ ms h.
-    confirmed_found ms t (h.event ∙ ap (option_map line_kind_data) is_event) (h.time ∙ ap (option_map integer) time_is.0)
+    confirmed_given ms t (h.event ∙ ap (option_map line_kind_data) is_event) (h.time ∙ ap (option_map integer) time_is.0)
     (record { fitting = refl; in_time = time_is.1; numbers = tt })
 
 pub says_keys : (f : Found) (t : ℕ) → f.event ≡ Some kinds.Keys → (f.time ≡ Some t) × (t ≤ max_time) → Says f (Keys t)
 says_keys f t is_event time_is = λ ms h.
-    keys_found ms t (h.event ∙ ap (option_map line_kind_data) is_event) (h.time ∙ ap (option_map integer) time_is.0)
+    keys_given ms t (h.event ∙ ap (option_map line_kind_data) is_event) (h.time ∙ ap (option_map integer) time_is.0)
     (record { fitting = refl; in_time = time_is.1; numbers = tt })
 
 pub says_metrics : (f : Found) (t : ℕ) → f.event ≡ Some kinds.Metrics → (f.time ≡ Some t) × (t ≤ max_time) → Says f (Metrics t f.values)
 says_metrics f t is_event time_is = λ ms h.
-    metrics_found ms t f.values (h.event ∙ ap (option_map line_kind_data) is_event) (h.time ∙ ap (option_map integer) time_is.0)
+    metrics_given ms t f.values (h.event ∙ ap (option_map line_kind_data) is_event) (h.time ∙ ap (option_map integer) time_is.0)
     h.window h.ssthresh h.bytes_in_flight h.latest_rtt h.min_rtt h.smoothed_rtt h.rttvar
     (record { fitting = refl; in_time = time_is.1; numbers = h.are_words })

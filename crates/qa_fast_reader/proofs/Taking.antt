@@ -21,12 +21,13 @@ use Rattle.qa_format.specs.declared.line.Line.{Line}
 use Rattle.qa_format.specs.format.Reading.{json_of, reading_by, reading}
 use Rattle.qa_format.specs.format.Written.{integer, string, boolean}
 use Rattle.qa_format.specs.format.Proper.{IsWord}
-use Rattle.qa_format.proofs.format.AnyOrder.{get_put_other}
 use Rattle.qa_format.proofs.format.ProperReadings.{reading_fits}
 use Rattle.qa_fast_reader.specs.declared.found.Found.{Found}
-use Rattle.qa_scan.specs.Lexes.{Lexes, lexemes, members_lexemes, is_plain, IsQuoted, IsKey, IsValueOf, IsValue}
+use Rattle.qa_scan.specs.Lexes.{Lexes, lexemes, members_lexemes, is_plain, IsQuoted, IsKey, deepest, IsValueOf, IsValue}
 use Rattle.qa_fast_reader.specs.Found.{Holds, Keeps, Puts, Takes, TakesNothing, Follows, Ends, EndsIf, PutsIf, SaysLine, Reads, IsLineOf, IsMember, FollowsMembers, nothing, is_known}
-use Rattle.qa_scan.proofs.Lexing.{then, lexes_quoted, lexes_colon, lexes_comma, lexes_begin_object, lexes_end_object}
+use Rattle.qa_scan.proofs.Lexing.{lexes_quoted, lexes_colon, lexes_comma, lexes_begin_object, lexes_end_object}
+use Rattle.qa_fast_reader.proofs.Finding.{stays_apart}
+use Rattle.qa_fast_reader.proofs.Items.{string_member}
 use Rattle.qa_fast_reader.proofs.Reading.{json_of-lexemes, not_blank}
 
 -- ---- values
@@ -48,12 +49,7 @@ null_value bytes rest lexed = record { form = form.null; reads = refl; shallow =
 -- a key with its colon, and a value
 pub is_member : (key : List ℕ) (value : Data) (bytes middle behind rest : List ℕ) → list_all is_plain key ≡ true → IsQuoted key bytes middle → Lexes middle behind (colon ∷ [])
     → IsValueOf value behind rest → IsMember key value bytes rest
-is_member key value bytes middle behind rest all_plain quoted at_colon is = record {
-  form = is.form;
-  reads = is.reads;
-  shallow = is.shallow;
-  lexed = then (lexes_quoted key bytes middle all_plain quoted) (then at_colon is.lexed);
-}
+is_member = string_member deepest
 
 pub takes : (key : List ℕ) (old new : Found) (bytes behind rest : List ℕ) → list_all is_plain key ≡ true → IsKey key bytes behind → Puts key old new behind rest → Takes old new bytes rest
 takes key old new bytes behind rest all_plain is puts = record {
@@ -88,25 +84,25 @@ other_keeps key value unknown f ms h =
     let m2 = or_parts _ _ m3.0 in
     let m1 = or_parts _ _ m2.0 in
     record {
-      event = get_put_other (codes "event") key value ms (apart (codes "event") key w1.0) ∙ h.event;
-      time = get_put_other (codes "time") key value ms (apart (codes "time") key w1.1) ∙ h.time;
-      space = get_put_other (codes "space") key value ms (apart (codes "space") key w2.1) ∙ h.space;
-      number = get_put_other (codes "number") key value ms (apart (codes "number") key w3.1) ∙ h.number;
-      size = get_put_other (codes "size") key value ms (apart (codes "size") key w4.1) ∙ h.size;
-      eliciting = get_put_other (codes "eliciting") key value ms (apart (codes "eliciting") key w5.1) ∙ h.eliciting;
-      in_flight = get_put_other (codes "in_flight") key value ms (apart (codes "in_flight") key w6.1) ∙ h.in_flight;
-      permission = get_put_other (codes "leave") key value ms (apart (codes "leave") key w7.1) ∙ h.permission;
-      ranges = get_put_other (codes "ranges") key value ms (apart (codes "ranges") key w8.1) ∙ h.ranges;
-      delay = get_put_other (codes "delay") key value ms (apart (codes "delay") key w9.1) ∙ h.delay;
-      app_limited = get_put_other (codes "limited") key value ms (apart (codes "limited") key w10.1) ∙ h.app_limited;
-      kind = get_put_other (codes "kind") key value ms (apart (codes "kind") key w11.1) ∙ h.kind;
-      window = get_put_other (codes "window") key value ms (apart (codes "window") key m1.0) ∙ h.window;
-      ssthresh = get_put_other (codes "ssthresh") key value ms (apart (codes "ssthresh") key m1.1) ∙ h.ssthresh;
-      bytes_in_flight = get_put_other (codes "bytes_in_flight") key value ms (apart (codes "bytes_in_flight") key m2.1) ∙ h.bytes_in_flight;
-      latest_rtt = get_put_other (codes "latest_rtt") key value ms (apart (codes "latest_rtt") key m3.1) ∙ h.latest_rtt;
-      min_rtt = get_put_other (codes "min_rtt") key value ms (apart (codes "min_rtt") key m4.1) ∙ h.min_rtt;
-      smoothed_rtt = get_put_other (codes "smoothed_rtt") key value ms (apart (codes "smoothed_rtt") key m5.1) ∙ h.smoothed_rtt;
-      rttvar = get_put_other (codes "rttvar") key value ms (apart (codes "rttvar") key m6.1) ∙ h.rttvar;
+      event = stays_apart (codes "event") key value ms (apart (codes "event") key w1.0) ∙ h.event;
+      time = stays_apart (codes "time") key value ms (apart (codes "time") key w1.1) ∙ h.time;
+      space = stays_apart (codes "space") key value ms (apart (codes "space") key w2.1) ∙ h.space;
+      number = stays_apart (codes "number") key value ms (apart (codes "number") key w3.1) ∙ h.number;
+      size = stays_apart (codes "size") key value ms (apart (codes "size") key w4.1) ∙ h.size;
+      eliciting = stays_apart (codes "eliciting") key value ms (apart (codes "eliciting") key w5.1) ∙ h.eliciting;
+      in_flight = stays_apart (codes "in_flight") key value ms (apart (codes "in_flight") key w6.1) ∙ h.in_flight;
+      permission = stays_apart (codes "leave") key value ms (apart (codes "leave") key w7.1) ∙ h.permission;
+      ranges = stays_apart (codes "ranges") key value ms (apart (codes "ranges") key w8.1) ∙ h.ranges;
+      delay = stays_apart (codes "delay") key value ms (apart (codes "delay") key w9.1) ∙ h.delay;
+      app_limited = stays_apart (codes "limited") key value ms (apart (codes "limited") key w10.1) ∙ h.app_limited;
+      kind = stays_apart (codes "kind") key value ms (apart (codes "kind") key w11.1) ∙ h.kind;
+      window = stays_apart (codes "window") key value ms (apart (codes "window") key m1.0) ∙ h.window;
+      ssthresh = stays_apart (codes "ssthresh") key value ms (apart (codes "ssthresh") key m1.1) ∙ h.ssthresh;
+      bytes_in_flight = stays_apart (codes "bytes_in_flight") key value ms (apart (codes "bytes_in_flight") key m2.1) ∙ h.bytes_in_flight;
+      latest_rtt = stays_apart (codes "latest_rtt") key value ms (apart (codes "latest_rtt") key m3.1) ∙ h.latest_rtt;
+      min_rtt = stays_apart (codes "min_rtt") key value ms (apart (codes "min_rtt") key m4.1) ∙ h.min_rtt;
+      smoothed_rtt = stays_apart (codes "smoothed_rtt") key value ms (apart (codes "smoothed_rtt") key m5.1) ∙ h.smoothed_rtt;
+      rttvar = stays_apart (codes "rttvar") key value ms (apart (codes "rttvar") key m6.1) ∙ h.rttvar;
       are_words = h.are_words;
       are_ranges = h.are_ranges;
     }
@@ -133,7 +129,7 @@ begins bytes rest opened = record { before = no_members; holds = nothing_holds; 
 
 -- a member before others
 member_then : (key : List ℕ) (value : Data) (old : Members) (bytes rest behind : List ℕ) → FollowsMembers old bytes rest → (one : IsMember key value rest behind) (ms : form.Members) (all : Members)
-    → tree_depth ms ≤ 2 → of_members ms (put key value old) ≡ Some all → lex between behind ≡ members_lexemes true ms → IsUtf8 behind
+    → tree_depth ms ≤ deepest → of_members ms (put key value old) ≡ Some all → lex between behind ≡ members_lexemes true ms → IsUtf8 behind
     → json_of bytes ≡ Ok (json.object all)
 member_then key value old bytes rest behind before one ms all shallow put_in lexed utf8 =
     before key one.form ms all (omega (arith, one.shallow, shallow))

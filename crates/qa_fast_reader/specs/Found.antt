@@ -1,18 +1,18 @@
 -- What was found of an object's keys so far, and what a line's bytes then still have to be.
 use Rattle.std.specs.Prelude.{◌≡◌, ◌≤◌, [], ◌∷◌, ◌++◌, ℕ, List, length, drop, Option, Bool, true}
 use Rattle.std.specs.Prelude.{false, ◌||◌, bytes_eq, codes, option_map, IfSome, Ok, Some, None}
+use Rattle.std.specs.Prelude.{option_and_then, is_some, if◌then◌else◌}
 use Rattle.std.specs.List.{AllByRecursion}
 use Rattle.std.specs.Str.{IsUtf8}
 use Rattle.json.specs.Json as form
 use Rattle.json.specs.Json.{Json}
-use Rattle.json.specs.Lex.{token, colon, between, lex}
-use Rattle.json.specs.Token as tokens
+use Rattle.json.specs.Lex.{between, lex}
 use Rattle.json.specs.Word.{ends_word}
-use Rattle.json.specs.Tree.{depth, members_depth}
+use Rattle.json.specs.Tree.{members_depth}
 use Rattle.serde_json.specs.Data as json
 use Rattle.serde_json.specs.Data.{Data, Members, put}
-use Rattle.serde_json.specs.Find.{get_member}
-use Rattle.serde_json.specs.Read.{of_json, of_members}
+use Rattle.serde_json.specs.Find.{get_member, as_null}
+use Rattle.serde_json.specs.Read.{of_members}
 use Rattle.qa_base.specs.declared.event.Event.{Event}
 use Rattle.qa_format.specs.declared.line.Line.{Line}
 use Rattle.qa_format.specs.declared.line.Line.TheVariants as line
@@ -26,8 +26,9 @@ use Rattle.qa_format.specs.format.Proper.{IsRange, AreWords}
 use Rattle.qa_format.specs.format.Reading.{json_of, object_says, reader_named, reading}
 use Rattle.qa_format.specs.format.Written.{integer, string, boolean, line_fits}
 use Rattle.qa_fast_reader.specs.declared.found.Found.{Found}
-use Rattle.qa_scan.specs.Lexes.{Lexes, lexemes, members_lexemes, IsValueOf}
+use Rattle.qa_scan.specs.Lexes.{members_lexemes, deepest, IsValueOf}
 use Rattle.qa_fast_reader.specs.Ranges.{ranges_data}
+use Rattle.qa_fast_reader.specs.Items.{IsMemberWithin}
 
 -- ---- values
 
@@ -75,28 +76,36 @@ is_known_metric key =
 abbrev pub is_known : List ℕ → Bool
 is_known key = is_known_word key || is_known_metric key
 
+-- a value, and nothing for null, which counts as absent
+abbrev pub unless_null : Data → Option Data
+unless_null value = if is_some (as_null value) then None else Some value
+
+-- what stands at a key
+abbrev pub given : List ℕ → Members → Option Data
+given key ms = option_and_then unless_null (get_member key ms)
+
 -- each key of the members gives what was found of it, and nothing where nothing was
 pub record Holds (f : Found) (ms : Members) : Type 0 where
-  pub event : get_member (codes "event") ms ≡ option_map line_kind_data f.event
-  pub time : get_member (codes "time") ms ≡ option_map integer f.time
-  pub space : get_member (codes "space") ms ≡ option_map space_data f.space
-  pub number : get_member (codes "number") ms ≡ option_map integer f.number
-  pub size : get_member (codes "size") ms ≡ option_map integer f.size
-  pub eliciting : get_member (codes "eliciting") ms ≡ option_map boolean f.eliciting
-  pub in_flight : get_member (codes "in_flight") ms ≡ option_map boolean f.in_flight
-  pub permission : get_member (codes "leave") ms ≡ option_map permission_data f.permission
-  pub ranges : get_member (codes "ranges") ms ≡ option_map ranges_data f.ranges
-  pub delay : get_member (codes "delay") ms ≡ option_map integer f.delay
-  pub app_limited : get_member (codes "limited") ms ≡ option_map boolean f.app_limited
-  pub kind : get_member (codes "kind") ms ≡ option_map kind_data f.kind
-  pub window : get_member (codes "window") ms ≡ option_map integer f.values.window
-  pub ssthresh : get_member (codes "ssthresh") ms ≡ option_map integer f.values.ssthresh
-  pub bytes_in_flight : get_member (codes "bytes_in_flight") ms
+  pub event : given (codes "event") ms ≡ option_map line_kind_data f.event
+  pub time : given (codes "time") ms ≡ option_map integer f.time
+  pub space : given (codes "space") ms ≡ option_map space_data f.space
+  pub number : given (codes "number") ms ≡ option_map integer f.number
+  pub size : given (codes "size") ms ≡ option_map integer f.size
+  pub eliciting : given (codes "eliciting") ms ≡ option_map boolean f.eliciting
+  pub in_flight : given (codes "in_flight") ms ≡ option_map boolean f.in_flight
+  pub permission : given (codes "leave") ms ≡ option_map permission_data f.permission
+  pub ranges : given (codes "ranges") ms ≡ option_map ranges_data f.ranges
+  pub delay : given (codes "delay") ms ≡ option_map integer f.delay
+  pub app_limited : given (codes "limited") ms ≡ option_map boolean f.app_limited
+  pub kind : given (codes "kind") ms ≡ option_map kind_data f.kind
+  pub window : given (codes "window") ms ≡ option_map integer f.values.window
+  pub ssthresh : given (codes "ssthresh") ms ≡ option_map integer f.values.ssthresh
+  pub bytes_in_flight : given (codes "bytes_in_flight") ms
       ≡ option_map integer f.values.bytes_in_flight
-  pub latest_rtt : get_member (codes "latest_rtt") ms ≡ option_map integer f.values.latest_rtt
-  pub min_rtt : get_member (codes "min_rtt") ms ≡ option_map integer f.values.min_rtt
-  pub smoothed_rtt : get_member (codes "smoothed_rtt") ms ≡ option_map integer f.values.smoothed_rtt
-  pub rttvar : get_member (codes "rttvar") ms ≡ option_map integer f.values.rttvar
+  pub latest_rtt : given (codes "latest_rtt") ms ≡ option_map integer f.values.latest_rtt
+  pub min_rtt : given (codes "min_rtt") ms ≡ option_map integer f.values.min_rtt
+  pub smoothed_rtt : given (codes "smoothed_rtt") ms ≡ option_map integer f.values.smoothed_rtt
+  pub rttvar : given (codes "rttvar") ms ≡ option_map integer f.values.rttvar
   pub are_words : AreWords f.values
   pub are_ranges : IfSome f.ranges
       (λ ranges. (has_ranges ranges ≡ true) × AllByRecursion IsRange ranges)
@@ -113,11 +122,8 @@ pub record Puts (key : List ℕ) (old new : Found) (bytes rest : List ℕ) : Typ
   pub keeps : Keeps key value old new
 
 -- the bytes are this key, a text of its value, and the rest
-pub record IsMember (key : List ℕ) (value : Data) (bytes rest : List ℕ) : Type 0 where
-  pub form : Json
-  pub reads : of_json form ≡ Some value
-  pub shallow : depth form ≤ 2
-  pub lexed : Lexes bytes rest (token (tokens.string key) ∷ colon ∷ lexemes form)
+abbrev pub IsMember : List ℕ → Data → List ℕ → List ℕ → Type 0
+IsMember key value bytes rest = IsMemberWithin deepest key value bytes rest
 
 -- the bytes are a key, its value and the rest, and what was found is then found of this key too
 pub record Takes (old new : Found) (bytes rest : List ℕ) : Type 0 where
@@ -137,7 +143,7 @@ TakesNothing bytes rest = (f : Found) → Takes f f bytes rest
 abbrev pub FollowsMembers : Members → List ℕ → List ℕ → Type 0
 FollowsMembers before bytes rest =
     (key : List ℕ) (j : Json) (ms : form.Members) (all : Members)
-    → members_depth (form.member key j ms) ≤ 2
+    → members_depth (form.member key j ms) ≤ deepest
     → of_members (form.member key j ms) before ≡ Some all
     → lex between rest ≡ members_lexemes false (form.member key j ms) → IsUtf8 rest
     → json_of bytes ≡ Ok (json.object all)

@@ -1,5 +1,6 @@
 //! What was found at the keys of an object.
 ghost use Rattle.std.specs.Prelude.{◌≡◌, IfSome, codes};
+ghost use Rattle.serde_json.specs.Data as json;
 ghost use Rattle.qa_base.specs.values.Names.{field_name, key_name};
 ghost use Rattle.qa_format.specs.format.Written as written;
 ghost use Rattle.qa_fast_reader.specs.Found.{Keeps, Puts, Takes, nothing};
@@ -9,8 +10,17 @@ use crate::names::{line_kind, permission, space, timer_kind};
 use crate::ranges::ranges;
 use crate::unknown::unknown_member;
 use qa_base::{Field, Key, LineKind, MetricValues, Permission, Space, Spans, TimerKind};
-use qa_scan::{boolean, integer};
+use qa_scan::{boolean, integer, null};
 use std::alloc::Global;
+
+/// Whether the first byte is that of null, which no other value begins with.
+#[inline(always)]
+fn begins_null(bytes: &[u8]) -> bool {
+    let [first, ..] = bytes else {
+        return false;
+    };
+    *first == b'n'
+}
 
 /// What was found at the keys of an object.
 #[derive(Drop)]
@@ -71,7 +81,19 @@ impl Found {
             let rest = unknown_member(bytes)?;
             return Some(rest);
         };
-        self.value(alloc, key, rest)
+        self.value_or_null(alloc, key, rest)
+    }
+
+    /// The value of a key is found, or null, which counts as absent; gives what follows it.
+    #[inline(always)]
+    fn value_or_null<'a>(&mut self, alloc: Global, key: Key, bytes: &'a [u8]) -> Option<&'a [u8]>
+        ensures { IfSome result (λ rest. Puts (key_name key) self.old self.new bytes.now rest.now) }
+    {
+        if begins_null(bytes) {
+            let rest = self.null_at(key, bytes)?;
+            return Some(rest);
+        }
+        self.value(alloc, key, bytes)
     }
 
     /// The value of a key is found; gives what follows it.
@@ -94,6 +116,55 @@ impl Found {
             Key::Kind => self.kind(bytes),
             Key::Metric(field) => self.metric_value(field, bytes),
             _ => None,
+        }
+    }
+
+    /// Null is found at a key: nothing is given there, also where something was before. It stands
+    /// apart, since few lines have null.
+    #[inline(never)]
+    fn null_at<'a>(&mut self, key: Key, bytes: &'a [u8]) -> Option<&'a [u8]>
+        ensures { IfSome result (λ rest. Puts (key_name key) self.old self.new bytes.now rest.now) }
+    {
+        let rest = null(bytes)?;
+        self.forget(key)?;
+        Some(rest)
+    }
+
+    /// Nothing is found at the key of an event. None at other keys.
+    fn forget(&mut self, key: Key) -> Option<()>
+        ensures { IfSome result (λ _. Keeps (key_name key) json.null self.old self.new) }
+    {
+        match key {
+            Key::Event => self.event = None,
+            Key::Time => self.time = None,
+            Key::Space => self.space = None,
+            Key::Number => self.number = None,
+            Key::Size => self.size = None,
+            Key::Eliciting => self.eliciting = None,
+            Key::InFlight => self.in_flight = None,
+            Key::Leave => self.permission = None,
+            Key::Ranges => self.ranges = None,
+            Key::Delay => self.delay = None,
+            Key::Limited => self.app_limited = None,
+            Key::Kind => self.kind = None,
+            Key::Metric(field) => self.forget_metric(field),
+            _ => return None,
+        }
+        Some(())
+    }
+
+    /// Nothing is found at the key of a reported value.
+    fn forget_metric(&mut self, field: Field)
+        ensures { Keeps (field_name field) json.null self.old self.new }
+    {
+        match field {
+            Field::Window => self.values.window = None,
+            Field::Ssthresh => self.values.ssthresh = None,
+            Field::BytesInFlight => self.values.bytes_in_flight = None,
+            Field::LatestRtt => self.values.latest_rtt = None,
+            Field::MinRtt => self.values.min_rtt = None,
+            Field::SmoothedRtt => self.values.smoothed_rtt = None,
+            Field::Rttvar => self.values.rttvar = None,
         }
     }
 

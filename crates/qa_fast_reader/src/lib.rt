@@ -1,10 +1,9 @@
 //! A quick reader of lines in the form that most loggers write.
 //!
 //! It reads the lines of events: their keys in any order, white space between the tokens, and keys
-//! that no table has where their values are simple or lists of simple ones. Of any line that is one
-//! flat object of such values, as headers are, it makes the JSON value. It leaves every other line
-//! to `serde_json`: escapes, fractions, and what is no JSON. Nothing here says that a line has a
-//! fault.
+//! that no table has, with any value. Of any line that is one object of simple values and of lists
+//! of these, as headers are, it makes the JSON value. It leaves every other line to `serde_json`:
+//! escapes in the names of keys, and what is no JSON. Nothing here says that a line has a fault.
 #![tactic(auto)]
 
 mod events;

@@ -15,10 +15,10 @@ use std::alloc::Global;
 /// None for any other line.
 ///
 /// The form is one object with the keys of an event, each with a value of its kind, and any other
-/// keys: their values are integers without sign of at most 19 digits, strings of printable ASCII
-/// without an escape, booleans, null, or lists of these. Lines in a usual order (`usual_line`) are
-/// read here too, and more quickly there. A line with a fault is never of this form, and neither
-/// are a header and a blank line. Only ranges take memory, and None comes where it was refused.
+/// keys that are printable ASCII without an escape, with any values. Lines in a usual order
+/// (`usual_line`) are read here too, and more quickly there. A line with a fault is never of this
+/// form, and neither are a header and a blank line. Only ranges take memory, and None comes where
+/// it was refused.
 pub fn quick_line(alloc: Global, bytes: &[u8]) -> Option<Line>
     ensures read { IfSome result (λ line. reading.reading bytes.now ≡ Ok line) }
     ensures fitting { IfSome result (λ line. line_fits line ≡ true) }

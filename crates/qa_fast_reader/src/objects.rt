@@ -4,7 +4,7 @@ ghost use Rattle.std.specs.Prelude.{◌≡◌, [], ℕ, List, Ok, IfSome, string
 ghost use Rattle.serde_json.specs.Data as json;
 ghost use Rattle.serde_json.specs.View.{view, items_view, members_view};
 ghost use Rattle.qa_format.specs.format.Reading.{json_of};
-ghost use Rattle.qa_scan.specs.Lexes.{IsValueOf};
+ghost use Rattle.qa_scan.specs.Lexes.{deepest, IsValueOf};
 ghost use Rattle.qa_fast_reader.specs.Found.{PutsMember};
 ghost use Rattle.qa_fast_reader.specs.Items.{FollowsItems, IsSimpleOf};
 
@@ -62,7 +62,7 @@ fn simple_value<'a>(alloc: Global, into: &mut Value, bytes: &'a [u8]) -> Option<
 /// what follows it.
 fn items<'a>(alloc: Global, into: &mut Vec<Value>, bytes: &'a [u8]) -> Option<&'a [u8]>
     requires { into.old.items ≡ [] }
-    ensures { (whole : List ℕ) → FollowsItems [] whole bytes.now
+    ensures { (whole : List ℕ) → FollowsItems deepest [] whole bytes.now
         → IfSome result (λ rest.
         IsValueOf (json.array (items_view into.new.items)) whole rest.now) }
 {
@@ -83,7 +83,7 @@ fn items<'a>(alloc: Global, into: &mut Vec<Value>, bytes: &'a [u8]) -> Option<&'
 
 /// A list of simple values, behind the bracket that opens it; gives what follows it.
 fn list<'a>(alloc: Global, into: &mut Value, bytes: &'a [u8]) -> Option<&'a [u8]>
-    ensures { (whole : List ℕ) → FollowsItems [] whole bytes.now
+    ensures { (whole : List ℕ) → FollowsItems deepest [] whole bytes.now
         → IfSome result (λ rest. IsValueOf (view into.new) whole rest.now) }
 {
     let mut found = Vec::new(alloc);

@@ -1,12 +1,20 @@
-//! Members whose key no event has, where their value is simple or a list of simple values.
-ghost use Rattle.std.specs.Prelude.{ℕ, List, IfSome};
-ghost use Rattle.serde_json.specs.Data.{Data};
+//! Members whose key no event has.
+ghost use Rattle.std.specs.Prelude.{◌<◌, ℕ, List, IfSome};
+ghost use Rattle.serde_json.specs.Data.{Data, Members};
 ghost use Rattle.qa_fast_reader.specs.Found.{TakesNothing};
-ghost use Rattle.qa_fast_reader.specs.Items.{FollowsItems, IsSimpleValue};
-ghost use Rattle.qa_scan.specs.Lexes.{IsValue};
+ghost use Rattle.qa_fast_reader.specs.Items.{FollowsItems, FollowsMembersWithin, IsSomeValue};
+ghost use Rattle.qa_fast_reader.specs.Items.{IsSomeMember};
+ghost use Rattle.qa_scan.specs.Lexes.{IsString};
 
 use crate::keys::is_known;
-use qa_scan::{begin_array, boolean, colon, comma, end_array, integer, null, string};
+use qa_scan::{
+    any_string, begin_array, begin_object, boolean, colon, comma, end_array, end_object, integer,
+    null, number, string,
+};
+
+/// How deep a value of a line's object may nest: `serde_json` takes one level more, which is the
+/// object itself.
+const DEEPEST: u64 = 126;
 
 /// What follows a member whose key no event has.
 pub fn unknown_member(bytes: &[u8]) -> Option<&[u8]>
@@ -16,30 +24,50 @@ pub fn unknown_member(bytes: &[u8]) -> Option<&[u8]>
     if is_known(key) {
         return None;
     }
-    value(colon(rest)?)
+    value(colon(rest)?, DEEPEST)
 }
 
-/// What follows a simple value, or a list of simple values.
-fn value(bytes: &[u8]) -> Option<&[u8]>
-    ensures { IfSome result (λ rest. IsValue bytes.now rest.now) }
+/// What follows a value that nests no deeper than so.
+#[cycle(values)]
+fn value(bytes: &[u8], depth: u64) -> Option<&[u8]>
+    ensures { IfSome result (λ rest. IsSomeValue depth bytes.now rest.now) }
 {
-    let Some(inside) = begin_array(bytes) else {
-        return simple_value(bytes);
+    let [first, ..] = bytes else {
+        return None;
     };
+    match *first {
+        b'[' => list(bytes, depth),
+        b'{' => object(bytes, depth),
+        _ => simple_value(bytes),
+    }
+}
+
+/// What follows a list that nests no deeper than so.
+#[cycle(values)]
+fn list(bytes: &[u8], depth: u64) -> Option<&[u8]>
+    ensures { IfSome result (λ rest. IsSomeValue depth bytes.now rest.now) }
+{
+    if depth == 0 {
+        return None;
+    }
+    let inside = begin_array(bytes)?;
     if let Some(rest) = end_array(inside) {
         return Some(rest);
     }
-    list_end(inside)
+    list_end(inside, depth - 1)
 }
 
-/// What follows a list of simple values, of which there is one at least, from the first of them on.
-fn list_end(bytes: &[u8]) -> Option<&[u8]>
-    ensures { (whole : List ℕ) (seen : List Data) → FollowsItems seen whole bytes.now
-        → IfSome result (λ rest. IsValue whole rest.now) }
+/// What follows a list of values that nest no deeper than so, of which there is one at least, from
+/// the first of them on.
+#[cycle(values)]
+fn list_end(bytes: &[u8], depth: u64) -> Option<&[u8]>
+    ensures { (d : ℕ) (whole : List ℕ) (seen : List Data) → depth < d
+        → FollowsItems d seen whole bytes.now
+        → IfSome result (λ rest. IsSomeValue d whole rest.now) }
 {
     let mut rest = bytes;
     for i in 0..u64::MAX {
-        let behind = simple_value(rest)?;
+        let behind = value(rest, depth)?;
         let Some(more) = comma(behind) else {
             return end_array(behind);
         };
@@ -48,26 +76,83 @@ fn list_end(bytes: &[u8]) -> Option<&[u8]>
     None
 }
 
-/// What follows an integer without sign, a string without an escape, a boolean or null.
+/// What follows an object that nests no deeper than so.
+#[cycle(values)]
+fn object(bytes: &[u8], depth: u64) -> Option<&[u8]>
+    ensures { IfSome result (λ rest. IsSomeValue depth bytes.now rest.now) }
+{
+    if depth == 0 {
+        return None;
+    }
+    let inside = begin_object(bytes)?;
+    if let Some(rest) = end_object(inside) {
+        return Some(rest);
+    }
+    object_end(inside, depth - 1)
+}
+
+/// What follows an object whose values nest no deeper than so, of which there is one at least, from
+/// the first key on.
+#[cycle(values)]
+fn object_end(bytes: &[u8], depth: u64) -> Option<&[u8]>
+    ensures { (d : ℕ) (whole : List ℕ) (seen : Members) → depth < d
+        → FollowsMembersWithin d seen whole bytes.now
+        → IfSome result (λ rest. IsSomeValue d whole rest.now) }
+{
+    let mut rest = bytes;
+    for i in 0..u64::MAX {
+        let behind = member(rest, depth)?;
+        let Some(more) = comma(behind) else {
+            return end_object(behind);
+        };
+        rest = more;
+    }
+    None
+}
+
+/// What follows a key and its value, which nests no deeper than so.
+#[cycle(values)]
+fn member(bytes: &[u8], depth: u64) -> Option<&[u8]>
+    ensures { IfSome result (λ rest. IsSomeMember depth bytes.now rest.now) }
+{
+    let behind = text(bytes)?;
+    value(colon(behind)?, depth)
+}
+
+/// What follows a string, a number, a boolean or null.
 fn simple_value(bytes: &[u8]) -> Option<&[u8]>
-    ensures { IfSome result (λ rest. IsSimpleValue bytes.now rest.now) }
+    ensures { IfSome result (λ rest. IsSomeValue 0 bytes.now rest.now) }
 {
     let [first, ..] = bytes else {
         return None;
     };
     match *first {
-        b'"' => {
-            let (_text, rest) = string(bytes)?;
-            Some(rest)
-        }
+        b'"' => text(bytes),
         b't' | b'f' => {
             let (_value, rest) = boolean(bytes)?;
             Some(rest)
         }
         b'n' => null(bytes),
-        _ => {
-            let (_value, rest) = integer(bytes)?;
-            Some(rest)
-        }
+        _ => some_number(bytes),
     }
+}
+
+/// What follows a string, which mostly has no escape.
+fn text(bytes: &[u8]) -> Option<&[u8]>
+    ensures { IfSome result (λ rest. IsString bytes.now rest.now) }
+{
+    if let Some((_text, rest)) = string(bytes) {
+        return Some(rest);
+    }
+    any_string(bytes)
+}
+
+/// What follows a number, which mostly is an integer without sign.
+fn some_number(bytes: &[u8]) -> Option<&[u8]>
+    ensures { IfSome result (λ rest. IsSomeValue 0 bytes.now rest.now) }
+{
+    if let Some((_value, rest)) = integer(bytes) {
+        return Some(rest);
+    }
+    number(bytes)
 }

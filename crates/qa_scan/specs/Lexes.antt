@@ -73,12 +73,20 @@ abbrev mutual
   members_lexemes later (json.member k j ms) =
       comma_if later ++ (token (tokens.string k) ∷ colon ∷ (lexemes j ++ members_lexemes true ms))
 
--- the bytes are a text of this value, and the rest
-pub record IsValueOf (value : Data) (bytes rest : List ℕ) : Type 0 where
+-- how deep a value of a line's object may nest: the object is one level more, and a line has 127
+abbrev pub deepest : ℕ
+deepest = 126
+
+-- the bytes are a text of this value, which nests no deeper than so, and the rest
+pub record IsValueWithin (d : ℕ) (value : Data) (bytes rest : List ℕ) : Type 0 where
   pub form : Json
   pub reads : of_json form ≡ Some value
-  pub shallow : depth form ≤ 2
+  pub shallow : depth form ≤ d
   pub lexed : Lexes bytes rest (lexemes form)
+
+-- the bytes are a text of this value, and the rest
+abbrev pub IsValueOf : Data → List ℕ → List ℕ → Type 0
+IsValueOf value bytes rest = IsValueWithin deepest value bytes rest
 
 -- the bytes are a value, and the rest
 abbrev pub IsValue : List ℕ → List ℕ → Type 0

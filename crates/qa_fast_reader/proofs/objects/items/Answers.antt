@@ -2,12 +2,13 @@ use Rattle.std.proofs.Common.{List, map, sym, subst, rules}
 use Rattle.std.proofs.lemmas.Option.{IfSome_then}
 use Rattle.serde_json.specs.View.{view}
 use Rattle.serde_json.specs.declared.value.Value.{Value}
+use Rattle.qa_scan.specs.Lexes.{deepest}
 use Rattle.qa_fast_reader.specs.Items.{FollowsItems}
 use Rattle.qa_fast_reader.proofs.Making.{made_go_on, made_end}
 use Rattle.qa_fast_reader.proofs.objects.items.Goals as goal
 
 pub loop-i-init : goal.loop-i-init
-loop-i-init c whole before = let P : List Value → Type 0 = λ vs. FollowsItems (map view vs) whole c.args.bytes.now in subst P (sym c.requires) before
+loop-i-init c whole before = let P : List Value → Type 0 = λ vs. FollowsItems deepest (map view vs) whole c.args.bytes.now in subst P (sym c.requires) before
 
 pub loop-i-preserved : goal.loop-i-preserved
 loop-i-preserved c whole before =

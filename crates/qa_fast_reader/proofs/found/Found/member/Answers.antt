@@ -9,6 +9,6 @@ returns-in_default c = c.in_ok-rest.ensures c.args.self.now
 
 pub returns : goal.returns
 returns c =
-    IfSome_then c.value.result c.value.ensures
-    (λ rest puts. takes (key_name c.in-Some.key) c.args.self.now c.value.new.self c.args.bytes.now c.in-Some.rest.now rest.now
+    IfSome_then c.value_or_null.result c.value_or_null.ensures
+    (λ rest puts. takes (key_name c.in-Some.key) c.args.self.now c.value_or_null.new.self c.args.bytes.now c.in-Some.rest.now rest.now
     (key_is_plain c.in-Some.key) c.in-Some.ensures puts)
