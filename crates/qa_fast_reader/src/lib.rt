@@ -7,6 +7,7 @@
 //! fault.
 #![tactic(auto)]
 
+mod any_order;
 mod events;
 mod exact;
 mod found;

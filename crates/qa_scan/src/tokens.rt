@@ -150,7 +150,7 @@ pub fn comma(bytes: &[u8]) -> Option<&[u8]>
 
 /// Whether an integer or a literal ends before these bytes.
 #[inline(always)]
-fn ends_word(bytes: &[u8]) -> bool
+pub fn ends_word(bytes: &[u8]) -> bool
     ensures { result ≡ true → word.ends_word bytes.now ≡ true }
 {
     let [next, ..] = bytes else {
