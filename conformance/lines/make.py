@@ -293,6 +293,9 @@ TABLES: dict[str, tuple[Key, ...]] = {
     ),
 }
 
+# White space that JSON takes and that no line ends with.
+SPACES = ("\r", " ", "\t", " \r\t ")
+
 # Members whose key no table has. With one of the first a line is as without it; with one of the
 # second it is not JSON.
 IGNORED = (
@@ -511,20 +514,37 @@ def good_cases(kind: str) -> Iterator[Case]:
     yield spaced + "\r", said
     apart = "\r,\t".join(f' "{name}"\r:\t{value}' for name, value in usual(kind))
     yield "\t\r {" + apart + " } \t\r\r", said
-    short, said = object_text(short_of(kind)), written(kind, short_of(kind))
-    for member in IGNORED:
-        yield f"{{{member},{short[1:]}", said
-        yield f"{short[:-1]},{member}}}", said
+    yield from cases_with_ends(kind)
+    said = written(kind, short_of(kind))
+    for short in (object_text(short_of(kind)), object_text(sorted(short_of(kind)))):
+        for member in IGNORED:
+            yield f"{{{member},{short[1:]}", said
+            yield f"{short[:-1]},{member}}}", said
+
+
+def cases_with_ends(kind: str) -> Iterator[Case]:
+    """Good lines, in the order of the table and in ascending order, with white space before and
+    behind the brace at their end, and with two members there that no table has."""
+    said = written(kind, usual(kind))
+    for members in (usual(kind), sorted(usual(kind))):
+        text = object_text(members)
+        for space in SPACES:
+            yield text + space, said
+            yield f"{text[:-1]}{space}}}", said
+            yield f'{text[:-1]}{space},"x":{{}}{space}}}{space}', said
+        yield f'{text[:-1]},"x":-1,"y":"\u00e9"}}', said
 
 
 def json_cases(kind: str) -> Iterator[Case]:
     """Lines that are not JSON, or no object: cut at each byte, with a bad member, with more behind
     them."""
     whole, short = object_text(usual(kind)), object_text(short_of(kind))
+    in_order = object_text(sorted(short_of(kind)))
     for end in range(1, len(whole)):
         yield whole[:end], "F1 not-json"
     for member in NOT_JSON:
         yield f"{short[:-1]},{member}}}", "F1 not-json"
+        yield f"{in_order[:-1]},{member}}}", "F1 not-json"
     yield short + short, "F1 not-json"
     yield short + "}", "F1 not-json"
     yield f"[{short}]", "F2 not-object"

@@ -6,6 +6,7 @@
 //! escapes in the names of keys, and what is no JSON. Nothing here says that a line has a fault.
 #![tactic(auto)]
 
+mod any_order;
 mod events;
 mod exact;
 mod found;

@@ -4,11 +4,10 @@ ghost use Rattle.qa_format.specs.format.Reading as reading;
 ghost use Rattle.qa_format.specs.format.Written.{line_fits};
 ghost use Rattle.qa_fast_reader.specs.Found.{Reads};
 
+use crate::any_order::any_order;
 use crate::exact::exact_lost;
-use crate::found::Found;
 use crate::reports::exact_report;
 use qa_format::Line;
-use qa_scan::{begin_object, comma, end_object};
 use std::alloc::Global;
 
 /// The event that the bytes of a line say, where the line has the form that most loggers write;
@@ -26,29 +25,8 @@ pub fn quick_line(alloc: Global, bytes: &[u8]) -> Option<Line>
     if let Some(line) = exact_lost(alloc, bytes) {
         return Some(line);
     }
-    if let Some(line) = exact_report(bytes) {
+    if let Some(line) = exact_report(alloc, bytes) {
         return Some(line);
     }
     any_order(alloc, bytes)
-}
-
-/// The same, where the keys may stand in any order.
-#[inline(never)]
-fn any_order(alloc: Global, bytes: &[u8]) -> Option<Line>
-    ensures { Reads bytes.now result }
-{
-    let mut rest = begin_object(bytes)?;
-    let mut found = Found::nothing();
-    for i in 0..u64::MAX {
-        let behind = found.member(alloc, rest)?;
-        let Some(more) = comma(behind) else {
-            let end = end_object(behind)?;
-            if !end.is_empty() {
-                return None;
-            }
-            return found.line_of();
-        };
-        rest = more;
-    }
-    None
 }

@@ -181,15 +181,16 @@ impl Found {
         self.ack_next(rest)
     }
 
-    /// The line, where the object ends here.
+    /// The line, where the object ends here, or after other members and white space.
     #[inline(always)]
-    pub fn ended(&mut self, bytes: &[u8]) -> Option<Line>
-        ensures { (whole : List ℕ) → EndsIf self.old whole bytes.now → Reads whole result }
+    pub fn ended(self, alloc: Global, bytes: &[u8]) -> Option<Line>
+        ensures { (whole : List ℕ) → EndsIf self whole bytes.now → Reads whole result }
     {
         if !is_last(bytes, b'}') {
-            return None;
+            return self.go_on(alloc, bytes);
         }
-        self.line_of()
+        let mut found = self;
+        found.line_of()
     }
 
     /// Why the packet was allowed to leave is found, where it comes next; gives what follows.

@@ -8,7 +8,8 @@ ghost use Rattle.qa_fast_reader.specs.Found.{Continues, EndsIf, IsNextKey, Keeps
 use crate::found::Found;
 use qa_base::{Field, Key, LineKind};
 use qa_format::Line;
-use qa_scan::{after, is_last, open_integer, open_integer_at};
+use qa_scan::{after, open_integer, open_integer_at};
+use std::alloc::Global;
 
 /// The key, where the bytes begin with a comma, its name in quotes and a colon, and where its value
 /// begins.
@@ -98,12 +99,13 @@ impl Found {
         Some(())
     }
 
-    /// The time or a reported value is found, where it comes next; gives what follows it.
+    /// The time or a reported value is found, where its value begins at the place; gives what
+    /// follows it.
     #[inline(always)]
-    fn reported_next<'a>(&mut self, bytes: &'a [u8]) -> Option<&'a [u8]>
+    fn reported_at<'a>(&mut self, bytes: &'a [u8], key: Key, place: usize) -> Option<&'a [u8]>
+        requires { IsNextKey (key_name key) bytes.now place }
         ensures { IfSome result (λ rest. Continues self.old self.new bytes.now rest.now) }
     {
-        let (key, place) = next_key(bytes)?;
         let (value, rest) = open_integer_at(bytes, place)?;
         self.put(key, value)?;
         Some(rest)
@@ -130,7 +132,7 @@ fn report_begun<'a>(found: &mut Found, bytes: &'a [u8]) -> Option<&'a [u8]>
 /// of the format and where the keys ascend. It is not begun where a look at two bytes tells that
 /// there is none.
 #[inline(always)]
-pub fn exact_report(bytes: &[u8]) -> Option<Line>
+pub fn exact_report(alloc: Global, bytes: &[u8]) -> Option<Line>
     ensures { Reads bytes.now result }
 {
     let [_, _, first, _, _, _, _, _, _, _, kind, ..] = bytes else {
@@ -139,21 +141,21 @@ pub fn exact_report(bytes: &[u8]) -> Option<Line>
     if *first != b'b' && *kind != b'm' {
         return None;
     }
-    report(bytes)
+    report(alloc, bytes)
 }
 
 /// The same.
 #[inline(never)]
-fn report(bytes: &[u8]) -> Option<Line>
+fn report(alloc: Global, bytes: &[u8]) -> Option<Line>
     ensures { Reads bytes.now result }
 {
     let mut found = Found::nothing();
     let mut rest = report_begun(&mut found, bytes)?;
     for i in 0..u64::MAX {
-        if is_last(rest, b'}') {
-            return found.ended(rest);
-        }
-        rest = found.reported_next(rest)?;
+        let Some((key, place)) = next_key(rest) else {
+            return found.ended(alloc, rest);
+        };
+        rest = found.reported_at(rest, key, place)?;
     }
     None
 }

@@ -17,7 +17,7 @@ pub use numbers::number;
 pub use short::{short_integer, two_codes};
 pub use strings::any_string;
 pub use tokens::{
-    begin_array, begin_object, boolean, colon, comma, end_array, end_object, integer, null,
-    open_boolean, open_integer, open_integer_at, string,
+    begin_array, begin_object, boolean, colon, comma, end_array, end_object, ends_word, integer,
+    null, open_boolean, open_integer, open_integer_at, string,
 };
 pub use words::{after, after_byte, is_last};
