@@ -2,3 +2,4 @@ mod Endings
 mod Names
 mod Writes
 mod Written
+mod Pages

@@ -41,6 +41,12 @@ Audited left origin (Err Write) old new =
     (bytes : List ℕ) × AreOf left bytes × BeginsReport old new bytes
 Audited left origin (Err OutOfMemory) old new = new ≡ old
 
+-- the line of one of several files was written, and the report of some bytes
+abbrev pub ReportsFile : List ℕ → Outcome → Option (List ℕ) → Option (List ℕ) → Type 0
+ReportsFile name outcome old new =
+    (middle : Option (List ℕ)) × Headed true name old middle
+    × (bytes : List ℕ) × Reports middle new outcome bytes
+
 -- what was written where no audit of a file began
 abbrev pub Unaudited : Bor (List ℕ) → Result Outcome Failure → Option (List ℕ) → Option (List ℕ)
     → Type 0

@@ -1,18 +1,20 @@
 //! The subcommand `check`.
-ghost use Rattle.std.specs.Prelude.{◌≡◌, ◌⊎◌, [], List, Result, OnOk, IfErr, is_err, length};
-ghost use Rattle.std.specs.Prelude.{nat_lt};
+ghost use Rattle.std.specs.Prelude.{◌≡◌, ◌⊎◌, [], ℕ, List, Some, Result, IfOk, OnOk, IfErr, is_err};
+ghost use Rattle.std.specs.Prelude.{length, nat_lt, true};
+ghost use Rattle.std.specs.Borrow.{Bor};
 ghost use Rattle.std.specs.Io.KnownBytes.{Appends};
 ghost use Rattle.qa_check.specs.Audit.{Reads};
 ghost use Rattle.qa_check.specs.Failures.{failures_after};
 ghost use Rattle.qa_check.specs.Writing.{Begins};
 ghost use Rattle.qa_commands.specs.Checking as checking;
-ghost use Rattle.qa_commands.specs.Checking.{Audited, Checks, ChecksAll, any_stops, heading};
+ghost use Rattle.qa_commands.specs.Checking.{Audited, Checks, ChecksAll, ReportsFile};
+ghost use Rattle.qa_commands.specs.Checking.{any_stops, heading};
 ghost use Rattle.qa_commands.specs.Commands.{ChecksFiles};
 ghost use Rattle.qa_commands.specs.Ending.{Ends};
 
 use crate::ending::{Failure, Origin, end, exit_status, tell};
 use crate::naming::write_line;
-use qa_check::{Metered, Outcome, Sink, Source, audit};
+use qa_check::{AuditFault, Metered, Outcome, Sink, Source, audit, write_whole};
 use qa_sender::Running;
 use std::alloc::Global;
 use std::fs;
@@ -101,10 +103,78 @@ fn check_file<'a, R: Files, O: Sink>(
     let Ok(file) = fs::open(rt, name) else {
         return Err(Failure::Open(name));
     };
+    let mut input = Metered::new(file);
     if several {
-        write_heading(name, output)?;
+        check_one_of_several(alloc, name, &mut input, output)
+    } else {
+        audited(alloc, Origin::File(name), &mut input, output)
     }
-    audited(alloc, Origin::File(name), &mut Metered::new(file), output)
+}
+
+/// Audits one of several files. The line with its name and its report are written at once, so that
+/// processes that share an output do not tear them apart. Without a report the line is written
+/// alone.
+fn check_one_of_several<'a, I: Source, O: Sink>(
+    alloc: Global,
+    name: &'a str,
+    input: &mut I,
+    output: &mut O,
+) -> Result<Outcome, Failure<'a>>
+    ensures written { Checks true name.entry result (O.held output.old) (O.held output.new) }
+    ensures failures { O.write_failures output.new
+        ≡ failures_after (checking.stops result) (O.write_failures output.old) }
+{
+    let mut page = Metered::new(Vec::new(alloc));
+    match audit_on_page(alloc, name, input, &mut page) {
+        Ok(outcome) => write_page(outcome, page.into_inner().as_slice(), output),
+        Err(fault) => {
+            write_heading(name, output)?;
+            Err(unreported(fault, name))
+        }
+    }
+}
+
+/// Audits one of several files, and puts the line with its name and its report on a page, whose
+/// failure is that memory was refused.
+fn audit_on_page<I: Source, P: Sink>(
+    alloc: Global,
+    name: &str,
+    input: &mut I,
+    page: &mut P,
+) -> Result<Outcome, AuditFault>
+    ensures { IfOk result
+        (λ outcome. ReportsFile name.now outcome (P.held page.old) (P.held page.new)) }
+{
+    write_line("file ", name, page)?;
+    let outcome = audit::<Running, I, P>(alloc, input, page)?;
+    Ok(outcome)
+}
+
+/// Writes a page.
+fn write_page<'a, O: Sink>(
+    outcome: Outcome,
+    page: &[u8],
+    output: &mut O,
+) -> Result<Outcome, Failure<'a>>
+    ensures written { (name : Bor (List ℕ)) → ReportsFile name.now outcome (Some []) (Some page.now)
+        → Checks true name result (O.held output.old) (O.held output.new) }
+    ensures failures { O.write_failures output.new
+        ≡ failures_after (checking.stops result) (O.write_failures output.old) }
+{
+    match write_whole(output, page) {
+        Ok(()) => Ok(outcome),
+        Err(_) => Err(Failure::Write),
+    }
+}
+
+/// Why there is no report on a page.
+fn unreported<'a>(fault: AuditFault, name: &'a str) -> Failure<'a>
+    ensures { (result ≡ Failure.Read (Origin.File name.entry)) ⊎ (result ≡ Failure.OutOfMemory) }
+{
+    match fault {
+        AuditFault::Read => Failure::Read(Origin::File(name)),
+        AuditFault::Write | AuditFault::OutOfMemory => Failure::OutOfMemory,
+    }
 }
 
 /// Writes the line that stands before the report of one of several files.
