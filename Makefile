@@ -33,7 +33,7 @@ tests_in_python := test_page test_qlog test_captures $(runner_tests) test_releas
 
 # All programs in Python, by the places where their names are unlike each other.
 python := $(addprefix conformance/,allocations contracts crates cuts failing fuzz_library large library links made_up malicious memory mutations reasons recipes \
-	refusals run simulate unproved words wrong commands) \
+	refusals run side_by_side simulate unproved words wrong commands) \
 	conformance/fuzz/instrument conformance/lines/make.py $(wildcard conformance/*.py)
 python_of_fuzz := conformance/fuzz/run
 # The pages, and what measures and tests them.
@@ -51,7 +51,7 @@ python_of_bench := $(addprefix bench/,instructions library peers run trace) $(wi
 # The programs of conformance/ over what the gate built, the longest first. None waits for another.
 conformance := conformance-cuts conformance-failing conformance-refusals conformance-simulate conformance-mutations \
 	conformance-malicious conformance-large conformance-run conformance-reasons conformance-rows conformance-departures \
-	conformance-allocations conformance-memory
+	conformance-allocations conformance-memory conformance-side-by-side
 
 # What is handed to the library for C, in each language.
 bindings := conformance-library conformance-recipes bindings-rust bindings-go bindings-python
@@ -189,6 +189,9 @@ conformance-departures:
 
 conformance-allocations:
 	conformance/allocations $(program)
+
+conformance-side-by-side:
+	conformance/side_by_side $(program)
 
 conformance-memory:
 	conformance/memory $(program_without_memory)
