@@ -24,8 +24,8 @@ use Rattle.qa_format.specs.format.Proper.{IsWord}
 use Rattle.qa_format.proofs.format.ProperReadings.{reading_fits}
 use Rattle.qa_fast_reader.specs.declared.found.Found.{Found}
 use Rattle.qa_scan.specs.Lexes.{Lexes, lexemes, members_lexemes, is_plain, IsQuoted, IsKey, deepest, IsValueOf, IsValue}
-use Rattle.qa_fast_reader.specs.Found.{Holds, Keeps, Puts, Takes, TakesNothing, Follows, Ends, EndsIf, PutsIf, SaysLine, Reads, IsLineOf, IsMember, FollowsMembers, nothing, is_known}
-use Rattle.qa_scan.proofs.Lexing.{lexes_quoted, lexes_colon, lexes_comma, lexes_begin_object, lexes_end_object}
+use Rattle.qa_fast_reader.specs.Found.{Holds, Keeps, Puts, Takes, TakesNothing, Follows, Ends, EndsIf, PutsIf, SaysLine, Reads, IsLineOf, IsEnd, IsMember, FollowsMembers, nothing, is_known}
+use Rattle.qa_scan.proofs.Lexing.{lexes_quoted, lexes_colon, lexes_comma, lexes_begin_object, lexes_end_object, one_return, then}
 use Rattle.qa_fast_reader.proofs.Finding.{stays_apart}
 use Rattle.qa_fast_reader.proofs.Items.{string_member}
 use Rattle.qa_fast_reader.proofs.Reading.{json_of-lexemes, not_blank}
@@ -222,10 +222,19 @@ pub first_if : (key : List ℕ) (new : Found) (bytes behind rest : List ℕ) →
 first_if key new bytes behind rest all_plain is puts ended = first_member key new bytes behind rest all_plain is (puts ended)
 
 -- the brace that closes the object behind it
-pub last_member : (new : Found) (o : Option Line) (whole rest : List ℕ) → EndsIf new whole rest → rest ≡ 125 ∷ [] → IfSome o (λ l. SaysLine new l) → Reads whole o
-last_member new o whole rest before_if is says =
-    let before = before_if (ap ends_word is) in
-    quick_reads before.old new o whole before.last rest [] before.before before.takes (lexes_end_object rest [] is) refl says
+pub last_member : (new : Found) (o : Option Line) (whole rest : List ℕ) → EndsIf new whole rest → IsEnd rest → IfSome o (λ l. SaysLine new l) → Reads whole o
+last_member new o whole rest before_if end says =
+    let before = before_if end.ended in
+    quick_reads before.old new o whole before.last rest [] before.before before.takes end.lexed refl says
+
+pub end_alone : (bytes : List ℕ) → bytes ≡ 125 ∷ [] → IsEnd bytes
+end_alone bytes is = record { ended = ap ends_word is; lexed = lexes_end_object bytes [] is }
+
+pub end_before_return : (bytes : List ℕ) → bytes ≡ 125 ∷ 13 ∷ [] → IsEnd bytes
+end_before_return bytes is = record {
+  ended = ap ends_word is;
+  lexed = then (lexes_end_object bytes (13 ∷ []) is) (one_return (13 ∷ []) [] refl);
+}
 
 -- a line that is returned is one of these bytes
 pub some_reads : (bytes : List ℕ) (o : Option Line) (l : Line) → Reads bytes o → o ≡ Some l → IsLineOf bytes l

@@ -4,9 +4,10 @@ use Rattle.std.specs.Prelude.{false, ◌||◌, bytes_eq, codes, option_map, IfSo
 use Rattle.std.specs.Prelude.{option_and_then, is_some, if◌then◌else◌}
 use Rattle.std.specs.List.{AllByRecursion}
 use Rattle.std.specs.Str.{IsUtf8}
+use Rattle.json.specs.Token as tokens
 use Rattle.json.specs.Json as form
 use Rattle.json.specs.Json.{Json}
-use Rattle.json.specs.Lex.{between, lex}
+use Rattle.json.specs.Lex.{between, lex, token}
 use Rattle.json.specs.Word.{ends_word}
 use Rattle.json.specs.Tree.{members_depth}
 use Rattle.serde_json.specs.Data as json
@@ -26,7 +27,7 @@ use Rattle.qa_format.specs.format.Proper.{IsRange, AreWords}
 use Rattle.qa_format.specs.format.Reading.{json_of, object_says, reader_named, reading}
 use Rattle.qa_format.specs.format.Written.{integer, string, boolean, line_fits}
 use Rattle.qa_fast_reader.specs.declared.found.Found.{Found}
-use Rattle.qa_scan.specs.Lexes.{members_lexemes, deepest, IsValueOf}
+use Rattle.qa_scan.specs.Lexes.{members_lexemes, deepest, IsValueOf, Lexes}
 use Rattle.qa_fast_reader.specs.Ranges.{ranges_data}
 use Rattle.qa_fast_reader.specs.Items.{IsMemberWithin}
 
@@ -194,6 +195,11 @@ pub record Ends (f : Found) (bytes rest : List ℕ) : Type 0 where
   pub last : List ℕ
   pub before : Follows old bytes last
   pub takes : Takes old f last rest
+
+-- the bytes end an integer or a literal, and are the brace that closes an object
+pub record IsEnd (bytes : List ℕ) : Type 0 where
+  pub ended : ends_word bytes ≡ true
+  pub lexed : Lexes bytes [] (token tokens.end_object ∷ [])
 
 -- the same, if what comes next ends an integer or a literal
 abbrev pub EndsIf : Found → List ℕ → List ℕ → Type 0

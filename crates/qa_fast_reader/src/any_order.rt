@@ -4,36 +4,33 @@ ghost use Rattle.qa_fast_reader.specs.Found.{EndsIf, Follows, Reads};
 
 use crate::found::Found;
 use qa_format::Line;
-use qa_scan::{begin_object, comma, end_object, ends_word};
+use qa_scan::{begin_object, comma, end_object, ends_word, is_last};
 use std::alloc::Global;
 
 impl Found {
-    /// The line, from the beginning of a member on.
-    #[inline(always)]
-    fn members(self, alloc: Global, bytes: &[u8]) -> Option<Line>
-        ensures { (whole : List ℕ) → Follows self whole bytes.now → Reads whole result }
+    /// The line, from the beginning of a member on. It is compiled once, for all of its callers.
+    #[inline(never)]
+    fn members(&mut self, alloc: Global, bytes: &[u8]) -> Option<Line>
+        ensures { (whole : List ℕ) → Follows self.old whole bytes.now → Reads whole result }
     {
-        let mut found = self;
         let mut rest = bytes;
         for i in 0..u64::MAX {
-            let behind = found.member(alloc, rest)?;
+            let behind = self.member(alloc, rest)?;
             let Some(more) = comma(behind) else {
                 let end = end_object(behind)?;
                 if !end.is_empty() {
                     return None;
                 }
-                return found.line_of();
+                return self.line_of();
             };
             rest = more;
         }
         None
     }
 
-    /// The line, from what follows a member on. It is a function apart, since mostly the object
-    /// ends there, and takes what was found by value, so that until then it is in no memory.
-    #[inline(never)]
-    pub fn go_on(self, alloc: Global, bytes: &[u8]) -> Option<Line>
-        ensures { (whole : List ℕ) → EndsIf self whole bytes.now → Reads whole result }
+    /// The line, from what follows a member on.
+    fn go_on(&mut self, alloc: Global, bytes: &[u8]) -> Option<Line>
+        ensures { (whole : List ℕ) → EndsIf self.old whole bytes.now → Reads whole result }
     {
         if !ends_word(bytes) {
             return None;
@@ -45,17 +42,26 @@ impl Found {
         if !end.is_empty() {
             return None;
         }
-        let mut found = self;
-        found.line_of()
+        self.line_of()
+    }
+
+    /// The same. Mostly the object ends there.
+    #[inline(always)]
+    pub fn ended_or_more(&mut self, alloc: Global, bytes: &[u8]) -> Option<Line>
+        ensures { (whole : List ℕ) → EndsIf self.old whole bytes.now → Reads whole result }
+    {
+        if is_last(bytes, b'}') {
+            return self.ended(bytes);
+        }
+        self.go_on(alloc, bytes)
     }
 }
 
 /// The event that the bytes of a line say, where its keys may be in any order.
-#[inline(never)]
 pub fn any_order(alloc: Global, bytes: &[u8]) -> Option<Line>
     ensures { Reads bytes.now result }
 {
     let rest = begin_object(bytes)?;
-    let found = Found::nothing();
+    let mut found = Found::nothing();
     found.members(alloc, rest)
 }

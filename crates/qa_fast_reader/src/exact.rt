@@ -8,7 +8,7 @@ use std::alloc::Global;
 
 /// A packet that was sent, its keys in ascending order.
 #[inline(always)]
-fn sent_sorted(alloc: Global, bytes: &[u8]) -> Option<Line>
+fn sent_sorted(bytes: &[u8]) -> Option<Line>
     ensures { Reads bytes.now result }
 {
     let mut found = Found::nothing();
@@ -20,7 +20,7 @@ fn sent_sorted(alloc: Global, bytes: &[u8]) -> Option<Line>
     let rest = found.size_next(rest)?;
     let rest = found.space_next(rest)?;
     let rest = found.time_next(rest)?;
-    found.ended(alloc, rest)
+    found.ended(rest)
 }
 
 /// An acknowledgment, its keys in ascending order.
@@ -34,12 +34,12 @@ fn ack_sorted(alloc: Global, bytes: &[u8]) -> Option<Line>
     let rest = found.ranges_next(alloc, rest)?;
     let rest = found.space_next(rest)?;
     let rest = found.time_next(rest)?;
-    found.ended(alloc, rest)
+    found.ended(rest)
 }
 
 /// A packet that was sent, its keys in the order of the format.
 #[inline(always)]
-fn sent_in_order(alloc: Global, bytes: &[u8]) -> Option<Line>
+fn sent_in_order(bytes: &[u8]) -> Option<Line>
     ensures { Reads bytes.now result }
 {
     let mut found = Found::nothing();
@@ -51,7 +51,7 @@ fn sent_in_order(alloc: Global, bytes: &[u8]) -> Option<Line>
     let rest = found.eliciting_next(rest)?;
     let rest = found.in_flight_next(rest)?;
     let rest = found.permission_if(rest)?;
-    found.ended(alloc, rest)
+    found.ended(rest)
 }
 
 /// An acknowledgment, its keys in the order of the format.
@@ -66,7 +66,7 @@ fn ack_in_order(alloc: Global, bytes: &[u8]) -> Option<Line>
     let rest = found.ranges_next(alloc, rest)?;
     let rest = found.delay_if(rest)?;
     let rest = found.limited_if(rest)?;
-    found.ended(alloc, rest)
+    found.ended(rest)
 }
 
 /// Packets that were declared lost, their keys in ascending order.
@@ -79,7 +79,7 @@ fn lost_sorted(alloc: Global, bytes: &[u8]) -> Option<Line>
     let rest = found.ranges_next(alloc, rest)?;
     let rest = found.space_next(rest)?;
     let rest = found.time_next(rest)?;
-    found.ended(alloc, rest)
+    found.ended(rest)
 }
 
 /// Packets that were declared lost, their keys in the order of the format.
@@ -92,7 +92,7 @@ fn lost_in_order(alloc: Global, bytes: &[u8]) -> Option<Line>
     let rest = found.time_next(rest)?;
     let rest = found.space_next(rest)?;
     let rest = found.ranges_next(alloc, rest)?;
-    found.ended(alloc, rest)
+    found.ended(rest)
 }
 
 /// Whether the bytes of a line say a packet that was sent or an acknowledgment, its keys in a usual
@@ -102,7 +102,7 @@ fn lost_in_order(alloc: Global, bytes: &[u8]) -> Option<Line>
 pub fn usual_line(alloc: Global, bytes: &[u8], into: &mut Line) -> bool
     ensures { result ≡ true → IsLineOf bytes.now into.new }
 {
-    if let Some(line) = sent_sorted(alloc, bytes) {
+    if let Some(line) = sent_sorted(bytes) {
         *into = line;
         return true;
     }
@@ -110,7 +110,7 @@ pub fn usual_line(alloc: Global, bytes: &[u8], into: &mut Line) -> bool
         *into = line;
         return true;
     }
-    if let Some(line) = sent_in_order(alloc, bytes) {
+    if let Some(line) = sent_in_order(bytes) {
         *into = line;
         return true;
     }

@@ -1,8 +1,9 @@
 //! Members of an object without white space, each found where it comes next. The bytes in front of
 //! a value are known and are compared at once; an integer or a literal is not looked behind, since
 //! what comes next ends it.
-ghost use Rattle.std.specs.Prelude.{◌≡◌, ℕ, List, IfSome, codes};
-ghost use Rattle.qa_fast_reader.specs.Found.{Continues, EndsIf, Puts, PutsIf, Reads, nothing};
+ghost use Rattle.std.specs.Prelude.{◌≡◌, ◌∷◌, [], ℕ, List, IfSome, codes, true};
+ghost use Rattle.qa_fast_reader.specs.Found.{Continues, EndsIf, IsEnd, Puts, PutsIf, Reads};
+ghost use Rattle.qa_fast_reader.specs.Found.{nothing};
 
 use crate::found::Found;
 use crate::ranges::exact_ranges;
@@ -10,6 +11,28 @@ use qa_base::{LineKind, Spans};
 use qa_format::Line;
 use qa_scan::{after, is_last, open_boolean, open_integer, open_integer_at};
 use std::alloc::Global;
+
+/// Whether these bytes are a brace alone, or with CR behind it, as in lines that end with CR LF.
+#[inline(always)]
+fn is_end(bytes: &[u8]) -> bool
+    ensures { result ≡ true → IsEnd bytes.now }
+{
+    if is_last(bytes, b'}') {
+        return true;
+    }
+    is_before_return(bytes)
+}
+
+/// Whether these bytes are a brace and CR.
+#[inline(always)]
+fn is_before_return(bytes: &[u8]) -> bool
+    ensures { result ≡ true → bytes.now ≡ 125 ∷ 13 ∷ [] }
+{
+    if bytes.len() != 2 {
+        return false;
+    }
+    bytes[0] == b'}' && bytes[1] == b'\r'
+}
 
 impl Found {
     /// The time is found, where it comes next; gives what follows it.
@@ -181,16 +204,15 @@ impl Found {
         self.ack_next(rest)
     }
 
-    /// The line, where the object ends here, or after other members and white space.
+    /// The line, where the object ends here.
     #[inline(always)]
-    pub fn ended(self, alloc: Global, bytes: &[u8]) -> Option<Line>
-        ensures { (whole : List ℕ) → EndsIf self whole bytes.now → Reads whole result }
+    pub fn ended(&mut self, bytes: &[u8]) -> Option<Line>
+        ensures { (whole : List ℕ) → EndsIf self.old whole bytes.now → Reads whole result }
     {
-        if !is_last(bytes, b'}') {
-            return self.go_on(alloc, bytes);
+        if !is_end(bytes) {
+            return None;
         }
-        let mut found = self;
-        found.line_of()
+        self.line_of()
     }
 
     /// Why the packet was allowed to leave is found, where it comes next; gives what follows.

@@ -153,7 +153,7 @@ fn report(alloc: Global, bytes: &[u8]) -> Option<Line>
     let mut rest = report_begun(&mut found, bytes)?;
     for i in 0..u64::MAX {
         let Some((key, place)) = next_key(rest) else {
-            return found.ended(alloc, rest);
+            return found.ended_or_more(alloc, rest);
         };
         rest = found.reported_at(rest, key, place)?;
     }

@@ -80,6 +80,10 @@ pub one_space : (bytes rest : List ℕ) → bytes ≡ 32 ∷ rest → Lexes byte
 unfolding lex
 one_space bytes rest is = ascii_word (32 ∷ []) [] bytes rest refl refl is
 
+pub one_return : (bytes rest : List ℕ) → bytes ≡ 13 ∷ rest → Lexes bytes rest []
+unfolding lex
+one_return bytes rest is = ascii_word (13 ∷ []) [] bytes rest refl refl is
+
 -- one byte more of white space
 pub space_more : (bytes : List ℕ) (i : ℕ) → Lexes bytes (drop i bytes) [] → i < length bytes → is_space (get_or bytes i 0) ≡ true → Lexes bytes (drop (i + 1) bytes) []
 space_more bytes i before within blank =

@@ -7,10 +7,10 @@ loop-i-init c whole before = before
 
 pub loop-i-preserved : goal.loop-i-preserved
 loop-i-preserved c whole before =
-    goes_on c.loop-i.found c.member.new.self whole c.loop-i.rest.now c.in_ok-behind.behind.now c.in-Some.more.now
+    goes_on c.loop-i.self c.member.new.self whole c.loop-i.rest.now c.in_ok-behind.behind.now c.in-Some.more.now
     (c.loop-i.invariant whole before) c.in_ok-behind.ensures c.in-Some.ensures
 
 pub returns-in_default : goal.returns-in_default
 returns-in_default c whole before =
-    quick_reads c.loop-i.found c.member.new.self c.line_of.result whole c.loop-i.rest.now c.in_ok-behind.behind.now c.in_ok-end.end.now
+    quick_reads c.loop-i.self c.member.new.self c.line_of.result whole c.loop-i.rest.now c.in_ok-behind.behind.now c.in_ok-end.end.now
     (c.loop-i.invariant whole before) c.in_ok-behind.ensures c.in_ok-end.ensures (search rules) c.line_of.ensures
