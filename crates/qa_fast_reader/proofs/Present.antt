@@ -2,7 +2,7 @@
 -- as absent.
 use Rattle.std.proofs.Common.{◌≡◌, ◌∙◌, ℕ, ◌≤◌, List, Bool, true, false, cond, Option, Some, None, Result, Ok, Err, refl, ap, ◌&&◌, ◌||◌, not, arith}
 use Rattle.std.proofs.lemmas.Bool.{and_parts, leb-true}
-use Rattle.std.specs.Prelude.{nat_le, codes, option_map, unwrap_or, if◌then◌else◌}
+use Rattle.std.specs.Prelude.{nat_le, codes, option_map, unwrap_or}
 use Rattle.serde_json.specs.Data as json
 use Rattle.serde_json.specs.Data.{Data, object, Members}
 use Rattle.qa_base.specs.declared.event.Event.{Event}
@@ -23,9 +23,9 @@ use Rattle.qa_base.specs.declared.space.Space.{Space}
 use Rattle.qa_base.specs.declared.space.Space.TheVariants.{Initial, Handshake, App}
 use Rattle.qa_base.specs.values.Events.{is_space}
 use Rattle.qa_base.specs.values.Limits.{max_time, max_packet_number, max_packet_size}
-use Rattle.qa_base.specs.values.Names.{key_name, space_name, space_named, discarded_named, permission_name, permission_named, kind_name, kind_named}
+use Rattle.qa_base.specs.values.Names.{space_name, space_named, discarded_named, permission_name, permission_named, kind_name, kind_named}
 use Rattle.qa_format.specs.format.Proper.{IsProperEvent}
-use Rattle.qa_format.specs.format.Keys.{◌>>=◌, both, Kind, read_or, integer, integer_from, string, string_among, boolean, ranges, present, required, optional, if_present}
+use Rattle.qa_format.specs.format.Keys.{◌>>=◌, Kind, read_or, integer, integer_from, string, string_among, boolean, ranges, present, required, optional, if_present}
 use Rattle.qa_format.specs.format.Reading.{reader_named, object_says}
 use Rattle.qa_format.specs.format.Tables.{time, space, sent_fields, sent_of, ack_fields, ack_of, lost_fields, lost_of, timer_fields, timer_of, discard_fields, discard_of, confirmed_of, keys_of, metric_values, metrics_of}
 use Rattle.qa_format.specs.format.Written as written
