@@ -24,7 +24,7 @@ use Rattle.qa_format.specs.format.Proper.{IsWord}
 use Rattle.qa_format.proofs.format.ProperReadings.{reading_fits}
 use Rattle.qa_fast_reader.specs.declared.found.Found.{Found}
 use Rattle.qa_scan.specs.Lexes.{Lexes, lexemes, members_lexemes, is_plain, IsQuoted, IsKey, deepest, IsValueOf, IsValue}
-use Rattle.qa_fast_reader.specs.Found.{Holds, Keeps, Puts, Takes, TakesNothing, Follows, Ends, EndsIf, PutsIf, SaysLine, Reads, IsLineOf, IsEnd, IsMember, FollowsMembers, nothing, is_known}
+use Rattle.qa_fast_reader.specs.Found.{Holds, Keeps, Puts, Takes, TakesNothing, Follows, Ends, EndsIf, PutsIf, SaysLine, Reads, IsLineOf, IsEnd, Closes, IsMember, FollowsMembers, nothing, is_known}
 use Rattle.qa_scan.proofs.Lexing.{lexes_quoted, lexes_colon, lexes_comma, lexes_begin_object, lexes_end_object, one_return, then}
 use Rattle.qa_fast_reader.proofs.Finding.{stays_apart}
 use Rattle.qa_fast_reader.proofs.Items.{string_member}
@@ -221,11 +221,25 @@ pub first_if : (key : List ℕ) (new : Found) (bytes behind rest : List ℕ) →
     → PutsIf key nothing new behind rest → EndsIf new bytes rest
 first_if key new bytes behind rest all_plain is puts ended = first_member key new bytes behind rest all_plain is (puts ended)
 
+-- a comma and a member that gives nothing
+pub passes_next : (f : Found) (whole bytes more rest : List ℕ) → ends_word bytes ≡ true → Lexes bytes more (comma ∷ []) → TakesNothing more rest
+    → EndsIf f whole bytes → EndsIf f whole rest
+passes_next f whole bytes more rest ended parted takes_none before_if again =
+    let before = before_if ended in record {
+      old = f;
+      last = more;
+      before = goes_on before.old f whole before.last bytes more before.before before.takes parted;
+      takes = takes_none f;
+    }
+
 -- the brace that closes the object behind it
 pub last_member : (new : Found) (o : Option Line) (whole rest : List ℕ) → EndsIf new whole rest → IsEnd rest → IfSome o (λ l. SaysLine new l) → Reads whole o
 last_member new o whole rest before_if end says =
     let before = before_if end.ended in
     quick_reads before.old new o whole before.last rest [] before.before before.takes end.lexed refl says
+
+pub closes_at_end : (rest : List ℕ) → IsEnd rest → Closes rest
+closes_at_end rest end f whole o before says = last_member f o whole rest before end says
 
 pub end_alone : (bytes : List ℕ) → bytes ≡ 125 ∷ [] → IsEnd bytes
 end_alone bytes is = record { ended = ap ends_word is; lexed = lexes_end_object bytes [] is }

@@ -236,3 +236,9 @@ pub record Reads (bytes : List ℕ) (o : Option Line) : Type 0 where
 pub record IsLineOf (bytes : List ℕ) (l : Line) : Type 0 where
   pub read : reading bytes ≡ Ok l
   pub fitting : line_fits l ≡ true
+
+-- a line whose members end before these bytes says what was found of them
+abbrev pub Closes : List ℕ → Type 0
+Closes bytes =
+    (f : Found) (whole : List ℕ) (o : Option Line) → EndsIf f whole bytes
+    → IfSome o (λ l. SaysLine f l) → Reads whole o

@@ -25,7 +25,7 @@ pub fn quick_line(alloc: Global, bytes: &[u8]) -> Option<Line>
     if let Some(line) = exact_lost(alloc, bytes) {
         return Some(line);
     }
-    if let Some(line) = exact_report(alloc, bytes) {
+    if let Some(line) = exact_report(bytes) {
         return Some(line);
     }
     any_order(alloc, bytes)

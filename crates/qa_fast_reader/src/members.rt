@@ -2,15 +2,42 @@
 //! a value are known and are compared at once; an integer or a literal is not looked behind, since
 //! what comes next ends it.
 ghost use Rattle.std.specs.Prelude.{◌≡◌, ◌∷◌, [], ℕ, List, IfSome, codes, true};
-ghost use Rattle.qa_fast_reader.specs.Found.{Continues, EndsIf, IsEnd, Puts, PutsIf, Reads};
+ghost use Rattle.qa_fast_reader.specs.Found.{Closes, Continues, EndsIf, IsEnd, Puts, PutsIf, Reads};
 ghost use Rattle.qa_fast_reader.specs.Found.{nothing};
 
 use crate::found::Found;
 use crate::ranges::exact_ranges;
+use crate::unknown::unknown_next;
 use qa_base::{LineKind, Spans};
 use qa_format::Line;
 use qa_scan::{after, is_last, open_boolean, open_integer, open_integer_at};
 use std::alloc::Global;
+
+/// Whether these bytes end the object, after members at most whose key no event has.
+#[inline(always)]
+fn closes(bytes: &[u8]) -> bool
+    ensures { result ≡ true → Closes bytes.now }
+{
+    if is_end(bytes) {
+        return true;
+    }
+    closes_behind(bytes)
+}
+
+/// The same, behind such members.
+#[inline(never)]
+fn closes_behind(bytes: &[u8]) -> bool
+    ensures { result ≡ true → Closes bytes.now }
+{
+    let mut rest = bytes;
+    for i in 0..u64::MAX {
+        let Some(more) = unknown_next(rest) else {
+            return is_end(rest);
+        };
+        rest = more;
+    }
+    false
+}
 
 /// Whether these bytes are a brace alone, or with CR behind it, as in lines that end with CR LF.
 #[inline(always)]
@@ -209,7 +236,7 @@ impl Found {
     pub fn ended(&mut self, bytes: &[u8]) -> Option<Line>
         ensures { (whole : List ℕ) → EndsIf self.old whole bytes.now → Reads whole result }
     {
-        if !is_end(bytes) {
+        if !closes(bytes) {
             return None;
         }
         self.line_of()

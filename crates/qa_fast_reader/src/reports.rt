@@ -6,10 +6,10 @@ ghost use Rattle.qa_format.specs.format.Written as written;
 ghost use Rattle.qa_fast_reader.specs.Found.{Continues, EndsIf, IsNextKey, Keeps, Reads, nothing};
 
 use crate::found::Found;
+use crate::unknown::unknown_next;
 use qa_base::{Field, Key, LineKind};
 use qa_format::Line;
 use qa_scan::{after, open_integer, open_integer_at};
-use std::alloc::Global;
 
 /// The key, where the bytes begin with a comma, its name in quotes and a colon, and where its value
 /// begins.
@@ -132,7 +132,7 @@ fn report_begun<'a>(found: &mut Found, bytes: &'a [u8]) -> Option<&'a [u8]>
 /// of the format and where the keys ascend. It is not begun where a look at two bytes tells that
 /// there is none.
 #[inline(always)]
-pub fn exact_report(alloc: Global, bytes: &[u8]) -> Option<Line>
+pub fn exact_report(bytes: &[u8]) -> Option<Line>
     ensures { Reads bytes.now result }
 {
     let [_, _, first, _, _, _, _, _, _, _, kind, ..] = bytes else {
@@ -141,19 +141,23 @@ pub fn exact_report(alloc: Global, bytes: &[u8]) -> Option<Line>
     if *first != b'b' && *kind != b'm' {
         return None;
     }
-    report(alloc, bytes)
+    report(bytes)
 }
 
 /// The same.
 #[inline(never)]
-fn report(alloc: Global, bytes: &[u8]) -> Option<Line>
+fn report(bytes: &[u8]) -> Option<Line>
     ensures { Reads bytes.now result }
 {
     let mut found = Found::nothing();
     let mut rest = report_begun(&mut found, bytes)?;
     for i in 0..u64::MAX {
         let Some((key, place)) = next_key(rest) else {
-            return found.ended_or_more(alloc, rest);
+            let Some(more) = unknown_next(rest) else {
+                return found.ended(rest);
+            };
+            rest = more;
+            continue;
         };
         rest = found.reported_at(rest, key, place)?;
     }

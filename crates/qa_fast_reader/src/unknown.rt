@@ -1,15 +1,16 @@
 //! Members whose key no event has.
 ghost use Rattle.std.specs.Prelude.{◌<◌, ℕ, List, IfSome};
 ghost use Rattle.serde_json.specs.Data.{Data, Members};
-ghost use Rattle.qa_fast_reader.specs.Found.{TakesNothing};
+ghost use Rattle.qa_fast_reader.specs.declared.found.Found.{Found};
+ghost use Rattle.qa_fast_reader.specs.Found.{Continues, TakesNothing};
 ghost use Rattle.qa_fast_reader.specs.Items.{FollowsItems, FollowsMembersWithin, IsSomeValue};
 ghost use Rattle.qa_fast_reader.specs.Items.{IsSomeMember};
 ghost use Rattle.qa_scan.specs.Lexes.{IsString};
 
 use crate::keys::is_known;
 use qa_scan::{
-    any_string, begin_array, begin_object, boolean, colon, comma, end_array, end_object, integer,
-    null, number, string,
+    any_string, begin_array, begin_object, boolean, colon, comma, end_array, end_object, ends_word,
+    integer, null, number, string,
 };
 
 /// How deep a value of a line's object may nest: `serde_json` takes one level more, which is the
@@ -25,6 +26,19 @@ pub fn unknown_member(bytes: &[u8]) -> Option<&[u8]>
         return None;
     }
     value(colon(rest)?, DEEPEST)
+}
+
+/// What follows a comma and a member whose key no event has. It stands apart, since most lines have
+/// no such member.
+#[inline(never)]
+pub fn unknown_next(bytes: &[u8]) -> Option<&[u8]>
+    ensures { IfSome result (λ rest. (f : Found) → Continues f f bytes.now rest.now) }
+{
+    if !ends_word(bytes) {
+        return None;
+    }
+    let more = comma(bytes)?;
+    unknown_member(more)
 }
 
 /// What follows a value that nests no deeper than so.
