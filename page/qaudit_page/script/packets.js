@@ -1,11 +1,11 @@
 // Packets over time: a lane for each packet number space, each with numbers of its own, and below
-// them how long the loss detection timer has to run.
+// them what held the sender back, and how long the loss detection timer has to run.
 
 const TIMER_LANE = 56;
 const LEAST_LANE = 26;
 const LANE_GAP = 8;
 const lanes = [];
-let shownPackets = [], timerLane = null, isDense = false, packetRadius = 3.6;
+let shownPackets = [], timerLane = null, heldLane = null, isDense = false, packetRadius = 3.6;
 
 // Whether a packet, or the time until it was ended, is in the view.
 function isPacketSeen(packet) {
@@ -39,7 +39,8 @@ function layLanes(height) {
   }
   const seen = [0, 1, 2].filter(s => counts[s]);
   const hasTimer = trace.state.timer.some(code => code !== NO_SPACE);
-  const room = height - (hasTimer ? TIMER_LANE + LANE_GAP : 0) - LANE_GAP * (seen.length - 1) - 22;
+  const below = (hasTimer ? TIMER_LANE + LANE_GAP : 0) + HELD_LANE + LANE_GAP;
+  const room = height - below - LANE_GAP * (seen.length - 1) - 22;
   const wanted = counts.map(n => n && Math.sqrt(n) + 1), sum = wanted[0] + wanted[1] + wanted[2];
   lanes.length = 0;
   let top = 22;
@@ -50,6 +51,7 @@ function layLanes(height) {
     lanes.push({space: s, top, tall, low: least[s] - pad, high: most[s] + pad});
     top += tall + LANE_GAP;
   }
+  heldLane = {top: height - below + LANE_GAP, tall: HELD_LANE};
   timerLane = hasTimer ? {top: height - TIMER_LANE, tall: TIMER_LANE - 4, ...timerRange()} : null;
 }
 
@@ -123,6 +125,7 @@ function drawPackets(event) {
   }
   drawLeaves(context, area, to);
   drawLosses(context, area, to);
+  if (heldLane) drawHeld(context, area, to);
   if (timerLane) drawTimer(context, area, to);
   drawSelectedPacket(context, area, to);
   drawOver(context, area, true);
@@ -342,8 +345,8 @@ function drawSelectedPacket(context, area, to) {
 
 // The silences that are seen, each with how long it is and what is in flight.
 function drawSilences(context, area, to) {
-  if (view.byLine) return;
-  const bottom = area.y + (timerLane ? timerLane.top - LANE_GAP : area.h) - 6;
+  if (view.byLine || !heldLane) return;
+  const bottom = area.y + heldLane.top - LANE_GAP - 6;
   let drawn = 0;
   for (const it of trace.silences) {
     const left = Math.max(area.x, to.x(view.x[it.from]));
@@ -378,9 +381,9 @@ function drawSilence(context, silence, left, right, y) {
 }
 
 function drawNotJudged(context, area, to) {
-  if (trace.limit < trace.count) {
+  if (trace.limit < trace.count && heldLane) {
     const x = Math.max(area.x, to.x(view.x[trace.limit]));
-    const bottom = area.y + (timerLane ? timerLane.top - LANE_GAP : area.h) - 26;
+    const bottom = area.y + heldLane.top - LANE_GAP - 26;
     if (area.x + area.w - x > 70)
       words(context, 'not judged', area.x + area.w - 5, bottom, colors.soft, 'right', 'bottom',
         'italic ' + FONT);

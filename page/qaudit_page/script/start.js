@@ -54,7 +54,7 @@ function makeCharts() {
   const formatter = {axisLabelFormatter: tickOf};
   charts.window = new Dygraph(byId('chart-window'), rowsOf(lines.window, 200), options({
     labels: ['x', 'window', 'ssthresh', 'flight', 'marks'], ...toneOfAxes(),
-    series: seriesOfWindow(), axes: {x, y: {...y, ...formatter}},
+    series: seriesOfWindow(), axes: {x: {...x, drawAxis: false}, y: {...y, ...formatter}},
   }));
   charts.headroom = new Dygraph(byId('chart-headroom'), rowsOf(lines.headroom, 200), options({
     labels: ['x', 'headroom', 'marks'], ...toneOfAxes(), series: seriesOfHeadroom(),
@@ -146,6 +146,8 @@ function fillKeys() {
     [has('pto'), 'probe timeout', c => { c.beginPath(); triangle(c, 13, 8, 5);
       c.fillStyle = colors.timer; c.fill(); }],
     [has('loss'), 'loss timer', c => shaped(c, colors.timer, 1.6, triangle, 5)],
+    ...HELD.map((it, code) => [isHeld(code), it.name, c =>
+      heldBlock(c, code, {left: 1, top: 1, wide: 24, tall: 14}, false)]),
     [has('discard'), 'keys discarded', c => standingLine(c, colors.soft, 1.3, DASHES.discard)],
     [trace.verdictAt >= 0, 'line of the verdict', c =>
       standingLine(c, colors.refused, 2.5, [])],
@@ -155,6 +157,8 @@ function fillKeys() {
   ]);
   fillKeysOfState(has);
 }
+
+const isHeld = code => code === LATE ? trace.held.late.size > 0 : trace.held.after.includes(code);
 
 function fillKeysOfState() {
   const {reports, culprits, state} = trace;
@@ -210,7 +214,10 @@ function begin(started) {
   fillKeys();
   if (!followAddress()) {
     if (trace.opensAt >= 0) select(trace.opensAt, {zooms: true, isNamed: false});
-    else fillTable();
+    else {
+      fillTable();
+      fillPanel(-1);
+    }
   }
   update();
   if (trace.verdict.line && trace.verdictAt < 0 && trace.verdict.line <= trace.total)
@@ -225,6 +232,10 @@ function begin(started) {
   window.qauditPage = {
     ready: performance.now(), took: performance.now() - started,
     frames: () => frames, lastFrame: () => lastFrame, trace, view, lines,
+    heldLane: () => heldLane, heldColumns: () => {
+      const area = charts.packets.getArea();
+      return [...heldColumns(area, scaleOf(area, [0, 1]))];
+    },
     selected: () => view.selected < 0 ? null : trace.first + view.selected,
   };
 }

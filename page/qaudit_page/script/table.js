@@ -121,6 +121,7 @@ function select(place, {stays = false, zooms = false, isNamed = true} = {}) {
   else if (!isSeen(x)) show(x - half, x + half);
   else redraw();
   byId('said').textContent = summaryOf(at);
+  fillPanel(at);
   if (isNamed) nameLine(trace.first + at);
 }
 
@@ -138,8 +139,8 @@ function summaryOf(place) {
   const line = `Line ${trace.first + place}, ${KINDS[trace.kind[place]]}`;
   const time = hasTime(place) ? `, ${milliseconds(trace.time[place])}` : '';
   const packet = trace.packets.of[place] >= 0 ? `, ${fateOf(trace.packets.of[place])}` : '';
-  const stand = standingOf(place);
-  return `${line}${time}${packet}${stand && `, ${stand}`}`;
+  const stand = standingOf(place), held = heldWords(place);
+  return `${line}${time}${packet}${stand && `, ${stand}`}${held && `; after it ${held}`}`;
 }
 
 // What became of a packet.
@@ -187,6 +188,7 @@ function showTip(place, event) {
 function nearest(name, x, y) {
   const area = charts[name].getArea();
   if (x < area.x || x > area.x + area.w || y < area.y || y > area.y + area.h) return -1;
+  if (name === 'packets' && isHeldLane(y - area.y)) return heldPlace(area, x);
   const at = name === 'packets' ? nearestPacket(area, x, y) : -1;
   if (at >= 0) return at;
   const to = scaleOf(area, [0, 1]), isNear = place => Math.abs(to.x(view.x[place]) - x) < 4;
@@ -198,6 +200,12 @@ function nearest(name, x, y) {
   const value = view.from + (x - area.x) / area.w * (view.to - view.from), next = placeAt(value);
   if (next <= 0 || next >= trace.count) return Math.max(0, Math.min(trace.count - 1, next));
   return view.x[next] - value < value - view.x[next - 1] ? next : next - 1;
+}
+
+// The last line before an x: the one after which the sender was held back there.
+function heldPlace(area, x) {
+  const value = view.from + (x - area.x) / area.w * (view.to - view.from);
+  return Math.max(0, Math.min(trace.count - 1, placeAt(value)) - 1);
 }
 
 function nearestPacket(area, x, y) {
