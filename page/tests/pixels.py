@@ -31,8 +31,8 @@ class Scale:
         )
         browser.settled()
         self.browser = browser
-        # The lane of the headroom has the axis of the diagram above it.
-        above = "window" if chart == "headroom" else chart
+        # The window and the headroom have the axis of the packets above them.
+        above = "packets" if chart in ("window", "headroom") else chart
         self.x = line_through([(number(text), x) for text, x, _ in browser.run(LABELS, above, "x")])
         labels = [(number(text), y) for text, _, y in browser.run(LABELS, chart, "y")]
         self.y = line_through(first_lane(labels) if is_of_lanes else labels)

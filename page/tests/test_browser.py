@@ -203,7 +203,7 @@ class Using(Browsing):
         left, top, width, height = self.box("#chart-window")
         x, y = left + width / 2, top + height / 2
         self.mouse("mouseMoved", x, y, button="none")
-        self.assertIn("line ", self.text("#tip"))
+        self.assertIn("under the cursor", self.text("#panel"))
         self.drag(x, y, 0)
         self.assertGreater(self.selected(), 1000)
         whole = self.view()

@@ -41,7 +41,7 @@ class HeldBack(Browsing):
 
     def test_a_click_into_the_lane(self) -> None:
         self.show(made(joined(*FULL)))
-        self.assertIn("Click into a diagram", self.text("#panel"))
+        self.assertIn("click into it to select a line", self.text("#panel"))
         left, top, width, _ = self.box("#chart-packets")
         lane = self.browser.run("return qauditPage.heldLane()")
         self.drag(left + width / 2, top + lane["top"] + lane["tall"] / 2, 0)

@@ -63,7 +63,7 @@ const KEYS = {
   Home: () => select(0), End: () => select(trace.count - 1),
   '+': () => zoom(0.5), '=': () => zoom(0.5), '-': () => zoom(2), '0': showAll, v: toVerdict,
   n: () => toDeparture(1), p: () => toDeparture(-1),
-  '/': () => byId('find').focus(), Escape: () => showTip(-1),
+  '/': () => byId('find').focus(), Escape: () => showCursor(-1),
 };
 
 function onKey(event) {
@@ -144,12 +144,12 @@ function addPointer(name) {
     const pans = isTouch || event.shiftKey || event.altKey || event.button === 1;
     gesture = {begin: at(event), view: [view.from, view.to], pans, points: [...pointers.values()]};
     if (!isTouch) box.setPointerCapture(event.pointerId);
-    showTip(-1);
+    showCursor(-1);
   });
   box.addEventListener('pointermove', event => {
     const point = at(event);
     if (!pointers.has(event.pointerId)) {
-      if (event.pointerType !== 'touch') showTip(nearest(name, point.x, point.y), event);
+      if (event.pointerType !== 'touch') showCursor(nearest(name, point.x, point.y));
       return;
     }
     pointers.set(event.pointerId, point);
@@ -165,7 +165,7 @@ function addPointer(name) {
   };
   box.addEventListener('pointerup', end);
   box.addEventListener('pointercancel', end);
-  box.addEventListener('pointerleave', () => showTip(-1));
+  box.addEventListener('pointerleave', () => showCursor(-1));
   box.addEventListener('dblclick', event => isInside(at(event)) && showAll());
   box.addEventListener('wheel', event => onWheel(event, area(), at(event)), {passive: false});
 }
@@ -221,7 +221,7 @@ function onWheel(event, area, point) {
   const isAside = event.shiftKey || Math.abs(event.deltaX) > Math.abs(event.deltaY);
   if (!event.ctrlKey && !event.metaKey && !isAside) return;
   event.preventDefault();
-  showTip(-1);
+  showCursor(-1);
   if (isAside) pan((event.deltaX || event.deltaY) / area.w);
   else {
     const x = view.from + (point.x - area.x) / area.w * (view.to - view.from);

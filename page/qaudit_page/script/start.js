@@ -216,7 +216,7 @@ function begin(started) {
     if (trace.opensAt >= 0) select(trace.opensAt, {zooms: true, isNamed: false});
     else {
       fillTable();
-      fillPanel(-1);
+      fillPanel();
     }
   }
   update();
@@ -232,7 +232,7 @@ function begin(started) {
   window.qauditPage = {
     ready: performance.now(), took: performance.now() - started,
     frames: () => frames, lastFrame: () => lastFrame, trace, view, lines,
-    heldLane: () => heldLane, heldColumns: () => {
+    heldLane: () => heldLane, cursor: () => cursorAt, heldColumns: () => {
       const area = charts.packets.getArea();
       return [...heldColumns(area, scaleOf(area, [0, 1]))];
     },

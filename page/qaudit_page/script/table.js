@@ -1,8 +1,7 @@
-// The lines about the selected one, each with the state behind it; and what the pointer is at.
+// The lines about the selected one, each with the state after it; and what the pointer is at.
 
 const ROWS = 24;
 const MOST_OF_LINE = 3000;
-const MOST_OF_TIP = 600;
 let tableFrom = 0;
 
 // The columns behind the text of a line, with their amounts.
@@ -81,7 +80,8 @@ function rowOfLine(place) {
   const time = hasTime(place) ? withoutUnit(milliseconds(trace.time[place])) : '';
   row.append(number, cellOf('time', time), said);
   if (hasState(place)) {
-    for (const [name, amount] of COLUMNS) row.append(cellOf(name, amount(place)));
+    for (const [name, amount] of COLUMNS)
+      row.append(cellOf(name, amount(place), changedTo(amount, place)));
   } else {
     // The text has the room of most of the columns that are empty.
     said.colSpan = COLUMNS.length - 1;
@@ -90,8 +90,8 @@ function rowOfLine(place) {
   return row;
 }
 
-function cellOf(name, text) {
-  const cell = element('td', text);
+function cellOf(name, text, isChanged) {
+  const cell = element('td', text, isChanged ? 'changed' : '');
   cell.dataset.name = name;
   return cell;
 }
@@ -121,7 +121,7 @@ function select(place, {stays = false, zooms = false, isNamed = true} = {}) {
   else if (!isSeen(x)) show(x - half, x + half);
   else redraw();
   byId('said').textContent = summaryOf(at);
-  fillPanel(at);
+  fillPanel();
   if (isNamed) nameLine(trace.first + at);
 }
 
@@ -160,28 +160,6 @@ function fateOf(packet) {
   }
   if (told.length === 1 || trace.packets.how[packet] === 'open') told.push('no ack');
   return told.join(', ');
-}
-
-function showTip(place, event) {
-  const box = byId('tip');
-  box.hidden = place < 0;
-  if (place < 0) return;
-  const time = hasTime(place) ? ` \u00b7 ${milliseconds(trace.time[place])}` : '';
-  const stand = standingOf(place) && ` \u00b7 ${standingOf(place)}`;
-  const head = element('div');
-  head.append(element('b', `line ${trace.first + place}`), time, stand);
-  const said = element('div', undefined, 'text');
-  put(said, trace.lines[place] || '', MOST_OF_TIP);
-  box.replaceChildren(head, said);
-  if (trace.packets.of[place] >= 0) box.append(element('div', fateOf(trace.packets.of[place])));
-  if (hasState(place)) {
-    const amounts = COLUMNS.map(([name, amount]) => `${name} ${amount(place)}`);
-    box.append(element('div', amounts.join(' \u00b7 '), 'state'));
-  }
-  const {offsetWidth: width, offsetHeight: height} = box;
-  const isLow = event.clientY + 18 + height > innerHeight;
-  box.style.left = `${Math.max(4, Math.min(innerWidth - width - 8, event.clientX + 16))}px`;
-  box.style.top = `${isLow ? Math.max(4, event.clientY - height - 14) : event.clientY + 18}px`;
 }
 
 // The place of what lies nearest to the pointer in a diagram; -1 where it is at none.

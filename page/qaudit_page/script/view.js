@@ -124,6 +124,7 @@ function update() {
   updateHeadroom();
   updateRtt();
   updateStrip();
+  moveCursors();
   lastFrame = performance.now() - begun;
   frames++;
 }
