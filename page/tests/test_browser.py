@@ -228,7 +228,7 @@ class Using(Browsing):
         self.show(self.page)
         self.key("+")
         ends = []
-        for chart in ("packets", "window", "rtt"):
+        for chart in ("packets", "rtt"):
             script = (
                 f"return document.querySelector('#chart-{chart} .dygraph-axis-label-x').textContent"
             )
@@ -279,7 +279,7 @@ class Using(Browsing):
         low, high = self.view()
         self.assertTrue(low < at < high < 3000)
         self.find("app 99999")
-        self.assertEqual(self.text("#found"), "not in this page")
+        self.assertIn("not in this page", self.text("#found"))
         self.find("2")
         self.assertEqual(self.selected(), 2)
 
@@ -303,7 +303,10 @@ class Using(Browsing):
 
     def test_a_space_is_hidden(self) -> None:
         self.show(self.page)
-        labels = "return document.querySelectorAll('#chart-packets .dygraph-axis-label-y').length"
+        labels = (
+            "return [...document.querySelectorAll('#chart-packets .dygraph-axis-label-y')]"
+            "  .map(it => it.textContent + it.getBoundingClientRect().top)"
+        )
         before = self.browser.run(labels)
         self.browser.run("document.querySelector('#spaces button.initial').click()")
         self.browser.settled()
@@ -682,7 +685,7 @@ class Marks(Browsing):
             self.key("+")
         labels = (
             "return [...document.querySelectorAll('#chart-window .dygraph-axis-label-y')]"
-            "  .map(it => Number(it.textContent.replaceAll(',', '')))"
+            "  .map(it => parseFloat(it.textContent.replaceAll(',', '')))"
         )
         found = self.browser.run(labels)
         self.assertGreater(min(found), 30_000)
@@ -711,6 +714,10 @@ class Marks(Browsing):
         self.deselected()
         at = Scale(self.browser, "rtt")
         self.assertTrue(at.has(150, 60, "latest"), "the first sample")
+        found = self.browser.run("return qauditPage.ranges().rtt")
+        self.assertLess(found[1], 100, "the loss delay and the probe timeout are on another lane")
+        # A bit below the top of the lane of the timer.
+        at = Scale(self.browser, "packets-timer")
         self.assertTrue(at.has(170, 67.5, "lost"), "the loss delay")
         self.assertTrue(at.has(170, 60 + 120 + 25, "timer"), "the probe timeout")
 
@@ -744,7 +751,7 @@ class Marks(Browsing):
         data, report = path.read_bytes(), report_of(path)
         self.show(made(data, report))
         lines = self.browser.run(
-            "return [[...qauditPage.lines.rtt.lossDelay]," " [...qauditPage.lines.rtt.timeout]]"
+            "return [[...qauditPage.lines.timer.lossDelay], [...qauditPage.lines.timer.timeout]]"
         )
         met = 0
         for line, sender, _ in states(data, report):
@@ -804,7 +811,7 @@ class WrongPages(Browsing):
             self.show(page)
             self.key("Home")
             self.key("0")
-            self.assertEqual(Scale(self.browser, "window").has(100, 14_400, "refused"), is_marked)
+            self.assertEqual(Scale(self.browser, "window").has(100, 14_400, "faint"), is_marked)
 
     def test_a_trace_that_ends_at_another_line(self) -> None:
         def change(data: Any) -> None:

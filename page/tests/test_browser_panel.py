@@ -46,7 +46,7 @@ class Panel(Browsing):
         self.show(made(joined(*TRACE)), "#line=5")
         rows = self.rows()
         self.assertEqual(rows["in flight"], ["2,400 B", "2,500 B", "+100 B"])
-        self.assertEqual(rows["smoothed RTT"], ["333 ms", "333 ms", "0"])
+        self.assertEqual(rows["smoothed"], ["333 ms", "333 ms", "0"])
         self.assertEqual(rows["window"], ["12,000 B", "", ""])
         self.assertIn("report of the sender", self.text("#panel"))
         self.assertIn("V16", self.text("#panel .stand"))
@@ -69,7 +69,7 @@ class Panel(Browsing):
         self.assertEqual(changed, ["in flight", "headroom", "timer"])
         bold = "return [...document.querySelectorAll('#rows tr.selected .changed')]"
         self.assertEqual(
-            self.browser.run(f"{bold}.map(it => it.dataset.name)"), ["in flight", "timer"]
+            self.browser.run(f"{bold}.map(it => it.dataset.name)"), ["in flight (B)", "timer (ms)"]
         )
 
     def test_the_json_is_there_on_demand(self) -> None:

@@ -83,6 +83,53 @@ def states(data: bytes, last: int | None) -> list[tuple[Event, Held]]:
     return [(event, wanted(sender)) for _, sender, event in followed(data, last)]
 
 
+# Of real logs with a stall, a probe timeout or a violation: the line that ended the longest
+# silence, and what held the sender back in it.
+ANSWERS = {
+    "aioquic-crypto-lost": (4, f"{ROOM}, 11,501 B of the window left"),
+    "curl-8.14-openssl-stalled": (
+        83,
+        "waiting for the probe timeout of app after 5 probe timeouts in a row,"
+        " 13,478 B of the window left",
+    ),
+    "neqo-153-latest": (6, f"{ROOM}, 10,016 B of the window left"),
+    "ngtcp2-halved": (427, "window full: 7,863 B past it"),
+    "ngtcp2-probe-count": (
+        7,
+        "waiting for the probe timeout of initial after 1 probe timeout in a row,"
+        " 12,120 B of the window left",
+    ),
+    "ngtcp2-reno-loss": (548, "window full: 1,476 B past it"),
+    "ngtcp2-stalled": (222, "window full: 7,132 B past it"),
+    "openssl-3.5-loss": (
+        169,
+        "waiting for the probe timeout of app after 1 probe timeout in a row,"
+        " 1,191 B of the window left",
+    ),
+    "openssl-3.6-loss": (186, "window full: 115 B past it"),
+    "quic-go-probe": (4, f"{ROOM}, 38,812 B of the window left"),
+    "quic-go-past-window": (
+        4,
+        "application limited, as the log says, 38,812 B of the window left",
+    ),
+    "quinn-loss": (586, "application limited, as the log says, 22,197 B of the window left"),
+    "quinn-validated": (18, "window full: 368 B left, a datagram has 1,232 B"),
+}
+
+
+class Real(unittest.TestCase):
+    """What held the sender back in the longest silence of real logs."""
+
+    def test_answers(self) -> None:
+        for name, answer in ANSWERS.items():
+            with self.subTest(name):
+                path = REAL / f"{name}.trace"
+                trace, verdict = seen(path.read_bytes(), report_of(path))
+                silence = longest_silences(trace, verdict.first_unjudged)[0]
+                why = words(trace, held_after(trace)[silence.row], silence.row)
+                self.assertEqual((silence.line, why), answer)
+
+
 class ByHand(unittest.TestCase):
     """Traces whose reasons are known."""
 

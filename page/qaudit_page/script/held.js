@@ -73,7 +73,7 @@ function drawHeld(context, area, to) {
     let end = from + 1;
     while (end < columns.length && columns[end] === columns[from]) end++;
     const box = {left: area.x + from, top, wide: end - from, tall: heldLane.tall};
-    if (columns[from] < HELD.length) heldBlock(context, columns[from], box, true);
+    if (columns[from] < HELD.length && isShown(HELD[columns[from]].name)) heldBlock(context, columns[from], box, true);
     from = end;
   }
   context.restore();

@@ -6,8 +6,8 @@ let cursorAt = -1, isJsonOpen = false;
 const VALUES = [
   ['window', 'window', 'window', 'B'], ['in flight', 'in_flight', 'bytes_in_flight', 'B'],
   ['headroom', '', '', 'B'], ['ssthresh', 'ssthresh', 'ssthresh', 'B'],
-  ['latest RTT', 'latest_rtt', 'latest_rtt', 'ms'], ['min RTT', 'min_rtt', 'min_rtt', 'ms'],
-  ['smoothed RTT', 'smoothed_rtt', 'smoothed_rtt', 'ms'], ['rttvar', 'rttvar', 'rttvar', 'ms'],
+  ['latest', 'latest_rtt', 'latest_rtt', 'ms'], ['min', 'min_rtt', 'min_rtt', 'ms'],
+  ['smoothed', 'smoothed_rtt', 'smoothed_rtt', 'ms'], ['rttvar', 'rttvar', 'rttvar', 'ms'],
   ['PTO count', 'pto_count', '', ''],
 ];
 
@@ -43,7 +43,7 @@ function fillPanel() {
   head.append(' ', element('small', place === view.selected ? 'selected' : 'under the cursor'));
   const said = [head, element('p', whatOf(place), 'what')], stand = standingOf(place);
   if (stand) said.push(element('p', stand, 'stand'));
-  box.replaceChildren(...said, valuesOf(place), jsonOf(place), ...heldParts(place));
+  box.replaceChildren(...said, ...heldParts(place), valuesOf(place), jsonOf(place));
 }
 
 // What a line says, in words.

@@ -6,11 +6,11 @@ let tableFrom = 0;
 
 // The columns behind the text of a line, with their amounts.
 const COLUMNS = [
-  ['window', i => bytes('window', i)], ['in flight', i => bytes('in_flight', i)],
-  ['ssthresh', i => bytes('ssthresh', i) || 'none'], ['latest', i => timeOf('latest_rtt', i)],
-  ['min', i => timeOf('min_rtt', i)], ['smoothed', i => timeOf('smoothed_rtt', i)],
-  ['rttvar', i => timeOf('rttvar', i)], ['PTOs', i => digitsOf('pto_count', i)],
-  ['owed', owedAt], ['timer', timerAt],
+  ['window (B)', i => bytes('window', i)], ['in flight (B)', i => bytes('in_flight', i)],
+  ['ssthresh (B)', i => bytes('ssthresh', i) || 'none'],
+  ['latest (ms)', i => timeOf('latest_rtt', i)], ['min (ms)', i => timeOf('min_rtt', i)],
+  ['smoothed (ms)', i => timeOf('smoothed_rtt', i)], ['rttvar (ms)', i => timeOf('rttvar', i)],
+  ['PTOs', i => digitsOf('pto_count', i)], ['owed', owedAt], ['timer (ms)', timerAt],
 ];
 
 const bytes = (name, place) => grouped(digitsOf(name, place));
@@ -78,7 +78,7 @@ function rowOfLine(place) {
   for (const words of judgements(place)) said.append(element('span', words, 'tag'), ' ');
   put(said, trace.lines[place] || '', MOST_OF_LINE);
   const time = hasTime(place) ? withoutUnit(milliseconds(trace.time[place])) : '';
-  row.append(number, cellOf('time', time), said);
+  row.append(number, cellOf('time (ms)', time), said);
   if (hasState(place)) {
     for (const [name, amount] of COLUMNS)
       row.append(cellOf(name, amount(place), changedTo(amount, place)));
