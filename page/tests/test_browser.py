@@ -481,10 +481,12 @@ class Past(Browsing):
         self.key("0")
         at = Scale(self.browser, "window")
         for time, flying in ((50, 13_200), (100, 14_400), (200, 14_401)):
-            self.assertTrue(at.has(time, flying, "refused"), f"the cross at {time} ms")
-            self.assertTrue(at.has(time, 2_000, "refused"), f"the upright at {time} ms")
-        self.assertFalse(at.has(150, 14_400, "refused"))
-        self.assertFalse(at.has(150, 2_000, "refused"))
+            # Those after the first are faint.
+            tone = "refused" if time == 50 else "faint"
+            self.assertTrue(at.has(time, flying, tone), f"the cross at {time} ms")
+            self.assertTrue(at.has(time, 2_000, tone), f"the upright at {time} ms")
+        self.assertFalse(at.has(150, 14_400, "faint"))
+        self.assertFalse(at.has(150, 2_000, "faint"))
 
     def test_many_are_ticks(self) -> None:
         """Where many depart each has a short upright at the bottom, and hides nothing."""
@@ -493,10 +495,10 @@ class Past(Browsing):
         self.key("Home")
         self.key("0")
         at = Scale(self.browser, "window")
-        self.assertTrue(at.has(50, 1_000, "refused"))
-        self.assertFalse(at.has(50, 30_000, "refused"))
+        self.assertTrue(at.has(50, 1_000, "faint"))
+        self.assertFalse(at.has(50, 30_000, "faint"))
         self.assertTrue(at.has(50, 12_000, "app"), "the window")
-        self.assertTrue(at.has(50, 13_200 + 50 * 1_200, "refused"), "a cross")
+        self.assertTrue(at.has(50, 13_200 + 50 * 1_200, "faint"), "a cross")
 
 
 class Harm(Browsing):
@@ -716,7 +718,11 @@ class Marks(Browsing):
         self.assertTrue(at.has(150, 60, "latest"), "the first sample")
         found = self.browser.run("return qauditPage.ranges().rtt")
         self.assertLess(found[1], 100, "the loss delay and the probe timeout are on another lane")
-        # A bit below the top of the lane of the timer.
+        header = HEADER.replace('"version":1', '"version":1,"initial_rtt":60000')
+        confirmed = '{"event":"confirmed","time":0}'
+        timed = (header, confirmed, sent(0), acked(60_000, (0, 0)), sent(1, 70_000), sent(2, 200_000))
+        self.show(made(joined(*timed)))
+        self.deselected()
         at = Scale(self.browser, "packets-timer")
         self.assertTrue(at.has(170, 67.5, "lost"), "the loss delay")
         self.assertTrue(at.has(170, 60 + 120 + 25, "timer"), "the probe timeout")

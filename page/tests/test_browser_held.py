@@ -15,8 +15,9 @@ TOLD = """const done = arguments[0], told = [];
 const drawn = () => new Promise(go => requestAnimationFrame(() => requestAnimationFrame(go)));
 (async () => {
   for (const it of document.querySelectorAll('#silences li')) {
-    it.querySelector('a').click();
-    await drawn();
+    const link = it.querySelector('a');
+    link.click();
+    do await drawn(); while (`#line=${qauditPage.selected()}` !== link.hash);
     const said = [it, document.getElementById("panel")];
     told.push(said.map(its => its.querySelector(".why").textContent));
   }

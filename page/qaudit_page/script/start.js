@@ -31,7 +31,7 @@ const toneOfAxes = () => ({axisLineColor: colors.soft, gridLineColor: colors.lin
 const line = (color, strokeWidth, strokePattern = null) => ({color, strokeWidth, strokePattern});
 const seriesOfWindow = () => ({
   window: line(colors.app, 2.2), ssthresh: line(colors.soft, 1.4, DASHES.ssthresh),
-  flight: {...line(colors.flight, 1.5), fillGraph: true}, marks: {plotter: drawWindowMarks},
+  flight: {...line(colors.flight, 2), fillGraph: true}, marks: {plotter: drawWindowMarks},
 });
 const seriesOfHeadroom = () => ({
   headroom: {...line(colors.flight, 1.5), fillGraph: true}, marks: {plotter: drawHeadroomMarks},

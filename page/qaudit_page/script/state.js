@@ -142,8 +142,12 @@ function padded([low, high]) {
   return [low - room, high + room * 1.6];
 }
 
-// A little room below 0, for its label: the lane of the headroom comes right below.
-const above = ([low, high]) => [low || -0.11 * high, high];
+// Room for half of a label below 0, since the lane of the headroom comes right below.
+const HALF_LABEL = 8;
+function above([low, high]) {
+  const tall = charts.window.getArea().h;
+  return [low || -high * HALF_LABEL / (tall - HALF_LABEL), high];
+}
 
 const pixelsOf = chart => Math.max(200, charts[chart].getArea().w);
 
