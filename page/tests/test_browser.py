@@ -720,8 +720,8 @@ class Marks(Browsing):
         self.assertLess(found[1], 100, "the loss delay and the probe timeout are on another lane")
         header = HEADER.replace('"version":1', '"version":1,"initial_rtt":60000')
         confirmed = '{"event":"confirmed","time":0}'
-        timed = (header, confirmed, sent(0), acked(60_000, (0, 0)), sent(1, 70_000), sent(2, 200_000))
-        self.show(made(joined(*timed)))
+        later = (acked(60_000, (0, 0)), sent(1, 70_000), sent(2, 200_000))
+        self.show(made(joined(header, confirmed, sent(0), *later)))
         self.deselected()
         at = Scale(self.browser, "packets-timer")
         self.assertTrue(at.has(170, 67.5, "lost"), "the loss delay")

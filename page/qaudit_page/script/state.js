@@ -269,9 +269,9 @@ function drawCulprits(context, area, range, chart) {
   const to = scaleOf(area, range), points = culpritsSeen(chart).map(({at, shown}) =>
     ({at, x: to.x(view.x[at]), y: Math.max(area.y + 9, to.y(shown))}));
   const free = cells(area, points.length > MANY_DEPARTURES ? 10 : 4);
-  if (isShown(OTHERS)) stroked(context, colors.faint, 1.6, [], () => {
+  if (isShown(OTHERS)) stroked(context, colors.faint, 2.2, [], () => {
     for (const {at, x, y} of points)
-      if (at !== trace.verdictAt && free(x, y)) cross(context, x, y, 3.2);
+      if (at !== trace.verdictAt && free(x, y)) cross(context, x, y, 3.5);
   });
   if (isShown(CULPRIT)) for (const {at, x, y} of points) if (at === trace.verdictAt) {
     context.beginPath();
