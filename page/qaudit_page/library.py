@@ -38,7 +38,10 @@ def resource(name: str) -> str:
 
 
 # The parts of the script of a page, in the order in which they are joined.
-MODULES = ("data", "shapes", "view", "packets", "state", "strip", "table", "controls", "start")
+MODULES = (
+    *("data", "shapes", "view", "packets", "held", "state", "strip", "table", "panel", "controls"),
+    *("find", "start"),
+)
 
 
 def script() -> str:

@@ -17,6 +17,7 @@ from .facts import Facts, facts_of
 from .failure import Failure
 from .files import name_of, read
 from .grounds import Basis, basis_of
+from .held import held_after
 from .library import dygraphs, licence, resource, script
 from .payload import Part, packed, part_of, payload, shown, text_of
 from .program import PAST, STRICT, Mode, Run, UnknownOptionError, Verdict, find, verdict_by
@@ -114,10 +115,10 @@ def written(wanted: Wanted, library: str, trace: Trace, verdict: Verdict, part: 
     """The whole page."""
     basis, silences = basis_by(trace, verdict), longest_silences(trace, verdict.first_unjudged)
     silence = silences[0] if silences else None
-    opens = opening_of(verdict, basis, silence, trace)
+    opens, held = opening_of(verdict, basis, silence, trace), held_after(trace)
     with ThreadPoolExecutor() as pool:
         lines = pool.submit(lambda: packed(text_of(trace, part)))
-        columns = payload(trace, verdict, part) | {"opens": opens}
+        columns = payload(trace, verdict, part, held) | {"opens": opens}
         data = packed(json.dumps(columns, separators=(",", ":")))
         text = lines.result()
     style, own, loader = resource("page.css"), script(), resource("script/load.js")
@@ -135,7 +136,7 @@ def written(wanted: Wanted, library: str, trace: Trace, verdict: Verdict, part: 
         CONVERTED="".join(f'<p class="note">{html(note)}</p>' for note in notes),
         QUOTE=quote(trace, verdict),
         DEPARTURES=section_of(verdict, basis, trace.unit),
-        SILENCES=silences_of(silences, trace),
+        SILENCES=silences_of(silences, trace, held),
         OVERVIEW=pairs(overview(wanted, trace, verdict, part)),
         OPTIONS=pairs(options(trace)),
         LICENCE=html_of_lines(licence()),

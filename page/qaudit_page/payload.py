@@ -11,10 +11,12 @@ from typing import Any, cast
 
 from .departures import Departures, departures_of
 from .failure import Failure, Status
+from .held import needed
 from .lenient import METRICS, SPACES
 from .program import Object, Verdict
 from .rows import AMOUNTS
 from .texts import count, decoded
+from .timers import late_timers
 from .trace import ELICITING, Trace
 
 # What a page takes; docs/page.md has what it costs.
@@ -229,7 +231,19 @@ def marked(kind: Departures, part: Part) -> Object:
     return {"rule": kind.rule, "name": kind.name, "field": kind.field, "lines": lines}
 
 
-def payload(trace: Trace, verdict: Verdict, part: Part) -> Object:
+def held_of(held: bytearray, trace: Trace, verdict: Verdict, part: Part) -> Object:
+    """What held the sender back after each row of a part; the events that came after a deadline,
+    and by how much; and how many bytes have to be left in a window that is not full."""
+    late = [it for it in late_timers(trace, verdict.first_unjudged) if part.has(it.line)]
+    return {
+        "after": digits(held[shown_of(part, trace.state.line)]),
+        "line": differences(it.line for it in late),
+        "late": [it.amount for it in late],
+        "needed": needed(trace),
+    }
+
+
+def payload(trace: Trace, verdict: Verdict, part: Part, held: bytearray) -> Object:
     """All that the script of a page draws, but for the text of the lines."""
     lines = slice(part.first - 1, part.last)
     header, packets = trace.header, packets_of(trace, part)
@@ -248,6 +262,7 @@ def payload(trace: Trace, verdict: Verdict, part: Part) -> Object:
         "space": digits(trace.space[lines]),
         "time": differences(trace.time[lines]),
         "state": state_of(trace, part),
+        "held": held_of(held, trace, verdict, part),
         "packets": packets,
         "acks": acks_of(trace, part, list(map(int, packets["least"]))),
         "metrics": metrics_of(trace, part),

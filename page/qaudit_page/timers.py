@@ -32,6 +32,8 @@ class Silence:
     # its deadline; 0 where it did not.
     timer: int
     over: int
+    # The last row before its end, whose state it ended in.
+    row: int
 
     def text(self, unit: str) -> str:
         """In words, without how long it was."""
@@ -96,19 +98,18 @@ class Clock:
 def longest_silences(trace: Trace, unjudged: int | None) -> list[Silence]:
     """The longest silences, of those that are equally long the first. One that went on past a
     report is one. The first line that was not judged may end one."""
-    state, clock, lines = trace.state, Clock(), [*trace.state.line]
+    state, clock, lines = trace.state, Clock(), followed_by(trace, unjudged)
     deadlines, flying = state.amounts["deadline"], state.amounts["in_flight"]
     longest = Longest()
     begin, in_flight = 0, 0
-    if unjudged is not None and unjudged <= len(trace.lines):
-        lines.append(unjudged)
     for row, line in enumerate(lines):
         if trace.kind[line - 1] in TIMELESS:
             continue
         time, timer = trace.time[line - 1], clock.set_for[0]
         long = time - begin
         if (in_flight or timer != NO_SPACE) and long > longest.least:
-            longest.current = Silence(line, long, in_flight, timer, clock.late_by(time))
+            late = clock.late_by(time)
+            longest.current = Silence(line, long, in_flight, timer, late, row - 1)
             longest.least = long
         if row < len(state.line) and trace.kind[line - 1] != REPORT:
             longest.keep()
@@ -118,17 +119,27 @@ def longest_silences(trace: Trace, unjudged: int | None) -> list[Silence]:
     return [silence for _, _, silence in sorted(longest.kept, reverse=True)]
 
 
-def late_timers(trace: Trace) -> Iterator[Late]:
-    """The events before which a timer of packets should have fired, as V18 finds them."""
+def late_timers(trace: Trace, unjudged: int | None = None) -> Iterator[Late]:
+    """The events before which a timer of packets should have fired, as V18 finds them. The first
+    line that was not judged may be one."""
     state, clock, awaited = trace.state, Clock(), awaited_early(trace)
-    deadlines = state.amounts["deadline"]
-    for row, line in enumerate(state.line):
+    deadlines, lines = state.amounts["deadline"], followed_by(trace, unjudged)
+    for row, line in enumerate(lines):
         time, timer = trace.time[line - 1], clock.set_for[0]
         is_of_packets = timer >= APP and timer != NO_SPACE or (row > 0 and awaited[row - 1])
         late = clock.late_by(time) if is_of_packets else 0
         if late:
             yield Late(line, late, timeout_of(trace, row - 1))
-        clock.after(state.timer[row], deadlines[row], time)
+        if row < len(state.line):
+            clock.after(state.timer[row], deadlines[row], time)
+
+
+def followed_by(trace: Trace, unjudged: int | None) -> list[int]:
+    """The lines that have rows, and the first that was not judged, if there is one."""
+    lines = [*trace.state.line]
+    if unjudged is not None and unjudged <= len(trace.lines):
+        lines.append(unjudged)
+    return lines
 
 
 def are_short(trace: Trace, most: int) -> bool:

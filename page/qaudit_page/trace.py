@@ -105,6 +105,8 @@ class Trace:
         self.numbers = [Numbers() for _ in SPACES]
         # The line and the greatest number of each acknowledgment.
         self.acks: list[tuple[int, int]] = []
+        # The lines of those acknowledgments that say that the sender was limited.
+        self.limited: list[int] = []
         self.metrics: list[tuple[int, list[int | None]]] = []
         self.state = State()
         self.now = 0
@@ -159,6 +161,8 @@ class Trace:
         """An acknowledgment."""
         self.mark("acked", line, said, self.packets.acked)
         self.acks.append((line, max(high for _, high in said["ranges"])))
+        if said.get("limited") is True:
+            self.limited.append(line)
 
     def lost(self, line: int, said: Event) -> None:
         """Packets that were declared lost."""

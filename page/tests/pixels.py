@@ -23,19 +23,20 @@ class Scale:
     """Where a diagram has values, by the labels that stand at its axes."""
 
     def __init__(self, browser: Browser, chart: str) -> None:
-        """Of the lanes of `packets-app` the one that counts from the most, where app is alone."""
-        is_of_lanes, chart = chart == "packets-app", chart.removesuffix("-app")
+        """Of `packets-app` the first lane, where app is alone; of `packets-timer` the last one."""
+        chart, _, lane = chart.partition("-")
         browser.run(
             "document.getElementById(`chart-${arguments[0]}`).scrollIntoView({block: 'center'})",
             chart,
         )
         browser.settled()
         self.browser = browser
-        # The lane of the headroom has the axis of the diagram above it.
-        above = "window" if chart == "headroom" else chart
+        # The window and the headroom have the axis of the packets above them.
+        above = "packets" if chart in ("window", "headroom") else chart
         self.x = line_through([(number(text), x) for text, x, _ in browser.run(LABELS, above, "x")])
         labels = [(number(text), y) for text, _, y in browser.run(LABELS, chart, "y")]
-        self.y = line_through(first_lane(labels) if is_of_lanes else labels)
+        of_lane = {"app": first_lane, "timer": last_lane}.get(lane, list)
+        self.y = line_through(of_lane(labels))
 
     def has(self, x: float, y: float, tone: str) -> bool:
         """Whether the colour of a name is at a place of the diagram, or a few pixels beside it."""
@@ -60,9 +61,15 @@ def first_lane(labels: list[tuple[float, float]]) -> list[tuple[float, float]]:
     return lane
 
 
+def last_lane(labels: list[tuple[float, float]]) -> list[tuple[float, float]]:
+    """The labels of the lowest lane: those below the last that does not rise from below."""
+    turned = first_lane([(-value, -y) for value, y in labels])
+    return [(-value, -y) for value, y in turned]
+
+
 def number(text: str) -> float:
-    """The number of a label."""
-    return float(text.replace(",", ""))
+    """The number of a label, without its unit."""
+    return float(re.sub("[^0-9.-]", "", text))
 
 
 def line_through(points: list[tuple[float, float]]) -> Callable[[float], float]:

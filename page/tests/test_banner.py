@@ -465,7 +465,8 @@ class Timers(unittest.TestCase):
         self.assertEqual([it.line for it in found], [3 * n + 2 for n in range(12, 2, -1)])
         page = Page(made(data))
         told = " ".join(page.by_id["silences"].split())
-        self.assertIn("13 ms, 1,200 B in flight, not past the probe timeout of app, until", told)
+        self.assertIn("13 ms, room in the window and nothing sent, 24,000 B of the window", told)
+        self.assertIn("left, 1,200 B in flight, not past the probe timeout of app, until", told)
         self.assertIn("until line 38 (ack)", told)
         self.assertNotIn("silences", Page(made(joined(HEADER, sent(0)))).by_id)
 

@@ -203,7 +203,7 @@ class Using(Browsing):
         left, top, width, height = self.box("#chart-window")
         x, y = left + width / 2, top + height / 2
         self.mouse("mouseMoved", x, y, button="none")
-        self.assertIn("line ", self.text("#tip"))
+        self.assertIn("under the cursor", self.text("#panel"))
         self.drag(x, y, 0)
         self.assertGreater(self.selected(), 1000)
         whole = self.view()
@@ -228,7 +228,7 @@ class Using(Browsing):
         self.show(self.page)
         self.key("+")
         ends = []
-        for chart in ("packets", "window", "rtt"):
+        for chart in ("packets", "rtt"):
             script = (
                 f"return document.querySelector('#chart-{chart} .dygraph-axis-label-x').textContent"
             )
@@ -279,7 +279,7 @@ class Using(Browsing):
         low, high = self.view()
         self.assertTrue(low < at < high < 3000)
         self.find("app 99999")
-        self.assertEqual(self.text("#found"), "not in this page")
+        self.assertIn("not in this page", self.text("#found"))
         self.find("2")
         self.assertEqual(self.selected(), 2)
 
@@ -303,7 +303,10 @@ class Using(Browsing):
 
     def test_a_space_is_hidden(self) -> None:
         self.show(self.page)
-        labels = "return document.querySelectorAll('#chart-packets .dygraph-axis-label-y').length"
+        labels = (
+            "return [...document.querySelectorAll('#chart-packets .dygraph-axis-label-y')]"
+            "  .map(it => it.textContent + it.getBoundingClientRect().top)"
+        )
         before = self.browser.run(labels)
         self.browser.run("document.querySelector('#spaces button.initial').click()")
         self.browser.settled()
@@ -478,10 +481,12 @@ class Past(Browsing):
         self.key("0")
         at = Scale(self.browser, "window")
         for time, flying in ((50, 13_200), (100, 14_400), (200, 14_401)):
-            self.assertTrue(at.has(time, flying, "refused"), f"the cross at {time} ms")
-            self.assertTrue(at.has(time, 2_000, "refused"), f"the upright at {time} ms")
-        self.assertFalse(at.has(150, 14_400, "refused"))
-        self.assertFalse(at.has(150, 2_000, "refused"))
+            # Those after the first are faint.
+            tone = "refused" if time == 50 else "faint"
+            self.assertTrue(at.has(time, flying, tone), f"the cross at {time} ms")
+            self.assertTrue(at.has(time, 2_000, tone), f"the upright at {time} ms")
+        self.assertFalse(at.has(150, 14_400, "faint"))
+        self.assertFalse(at.has(150, 2_000, "faint"))
 
     def test_many_are_ticks(self) -> None:
         """Where many depart each has a short upright at the bottom, and hides nothing."""
@@ -490,10 +495,10 @@ class Past(Browsing):
         self.key("Home")
         self.key("0")
         at = Scale(self.browser, "window")
-        self.assertTrue(at.has(50, 1_000, "refused"))
-        self.assertFalse(at.has(50, 30_000, "refused"))
+        self.assertTrue(at.has(50, 1_000, "faint"))
+        self.assertFalse(at.has(50, 30_000, "faint"))
         self.assertTrue(at.has(50, 12_000, "app"), "the window")
-        self.assertTrue(at.has(50, 13_200 + 50 * 1_200, "refused"), "a cross")
+        self.assertTrue(at.has(50, 13_200 + 50 * 1_200, "faint"), "a cross")
 
 
 class Harm(Browsing):
@@ -682,7 +687,7 @@ class Marks(Browsing):
             self.key("+")
         labels = (
             "return [...document.querySelectorAll('#chart-window .dygraph-axis-label-y')]"
-            "  .map(it => Number(it.textContent.replaceAll(',', '')))"
+            "  .map(it => parseFloat(it.textContent.replaceAll(',', '')))"
         )
         found = self.browser.run(labels)
         self.assertGreater(min(found), 30_000)
@@ -711,6 +716,14 @@ class Marks(Browsing):
         self.deselected()
         at = Scale(self.browser, "rtt")
         self.assertTrue(at.has(150, 60, "latest"), "the first sample")
+        found = self.browser.run("return qauditPage.ranges().rtt")
+        self.assertLess(found[1], 100, "the loss delay and the probe timeout are on another lane")
+        header = HEADER.replace('"version":1', '"version":1,"initial_rtt":60000')
+        confirmed = '{"event":"confirmed","time":0}'
+        later = (acked(60_000, (0, 0)), sent(1, 70_000), sent(2, 200_000))
+        self.show(made(joined(header, confirmed, sent(0), *later)))
+        self.deselected()
+        at = Scale(self.browser, "packets-timer")
         self.assertTrue(at.has(170, 67.5, "lost"), "the loss delay")
         self.assertTrue(at.has(170, 60 + 120 + 25, "timer"), "the probe timeout")
 
@@ -744,7 +757,7 @@ class Marks(Browsing):
         data, report = path.read_bytes(), report_of(path)
         self.show(made(data, report))
         lines = self.browser.run(
-            "return [[...qauditPage.lines.rtt.lossDelay]," " [...qauditPage.lines.rtt.timeout]]"
+            "return [[...qauditPage.lines.timer.lossDelay], [...qauditPage.lines.timer.timeout]]"
         )
         met = 0
         for line, sender, _ in states(data, report):
@@ -804,7 +817,7 @@ class WrongPages(Browsing):
             self.show(page)
             self.key("Home")
             self.key("0")
-            self.assertEqual(Scale(self.browser, "window").has(100, 14_400, "refused"), is_marked)
+            self.assertEqual(Scale(self.browser, "window").has(100, 14_400, "faint"), is_marked)
 
     def test_a_trace_that_ends_at_another_line(self) -> None:
         def change(data: Any) -> None:

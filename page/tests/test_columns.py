@@ -28,6 +28,7 @@ from sender import Event, Sender
 from why import said_by
 
 from qaudit_page.departures import departures_of
+from qaudit_page.held import held_after
 from qaudit_page.payload import part_of, payload
 from qaudit_page.program import Verdict
 from qaudit_page.texts import milliseconds, size
@@ -307,7 +308,8 @@ class Departures(unittest.TestCase):
         said["departures"][0]["lines"][1] += 1
         data = path.read_bytes()
         trace, _ = seen(data, report_of(path))
-        columns = payload(trace, Verdict(said), part_of(trace, Verdict(said), None, None))
+        part = part_of(trace, Verdict(said), None, None)
+        columns = payload(trace, Verdict(said), part, held_after(trace))
         found = [line for line, _ in departed(data, None)["V7 past-window"]]
         self.assertNotEqual(summed(columns["departures"][0]["lines"]), found)
 
@@ -332,7 +334,7 @@ class Mutated(unittest.TestCase):
             trace = trace_of(mutant(seed), [])
             trace.read_rest(1)
             part = part_of(trace, verdict, None, None)
-            columns = payload(trace, verdict, part)
+            columns = payload(trace, verdict, part, held_after(trace))
             met |= set(columns["kind"])
             self.assertEqual(len(columns["kind"]), len(trace.lines))
             self.assertEqual(columns["state"]["line"], [])

@@ -1,24 +1,7 @@
-// What a person does: buttons, keys, the pointer, the wheel, fingers, and what is looked for.
+// What a person does: buttons, keys, the pointer, the wheel and fingers.
 
 const CLICK = 5;
 const STEP = 1.3;
-
-function find(text) {
-  const line = /^\s*(\d{1,15})\s*$/.exec(text);
-  const packet = /^\s*(initial|handshake|app)\s+(\d{1,19})\s*$/i.exec(text);
-  let place = -1;
-  if (line) place = placeShown(+line[1]);
-  if (packet) {
-    const space = SPACES.indexOf(packet[1].toLowerCase()), number = BigInt(packet[2]);
-    const at = p => trace.packets.space[p] === space && numberOf(p) === number;
-    for (let p = 0; p < trace.packets.count && place < 0; p++)
-      if (at(p)) place = trace.packets.at[p];
-  }
-  const isAsked = line || packet;
-  byId('found').textContent = place >= 0 || !text.trim() ? '' :
-    isAsked ? 'not in this page' : 'a line, or a space and a packet number';
-  if (place >= 0) select(place, {zooms: true});
-}
 
 // Goes to the line that the address names.
 function followAddress() {
@@ -63,10 +46,17 @@ const KEYS = {
   Home: () => select(0), End: () => select(trace.count - 1),
   '+': () => zoom(0.5), '=': () => zoom(0.5), '-': () => zoom(2), '0': showAll, v: toVerdict,
   n: () => toDeparture(1), p: () => toDeparture(-1),
-  '/': () => byId('find').focus(), Escape: () => showTip(-1),
+  '/': () => byId('find').focus(), '?': toggleHelp, Escape: () => showCursor(-1),
 };
 
+// Shows all keys, or closes them again. The browser gives the focus back.
+function toggleHelp() {
+  if (byId('help').open) byId('help').close();
+  else byId('help').showModal();
+}
+
 function onKey(event) {
+  if (byId('help').open && event.key !== '?') return;
   if (event.ctrlKey || event.metaKey || event.altKey) return;
   if (/^(INPUT|SELECT|TEXTAREA)$/.test(event.target.tagName)) return;
   const does = KEYS[event.key];
@@ -85,6 +75,8 @@ function addControls() {
   click('earlier', () => turnTable(-ROWS));
   click('later', () => turnTable(ROWS));
   click('to-verdict', toVerdict);
+  click('to-help', toggleHelp);
+  click('help-close', toggleHelp);
   click('departure-before', () => toDeparture(-1));
   click('departure-next', () => toDeparture(1));
   click('rows', event => {
@@ -93,7 +85,7 @@ function addControls() {
   });
   byId('axis').addEventListener('change', changeAxis);
   byId('find').addEventListener('keydown', event =>
-    event.key === 'Enter' && find(event.target.value));
+    event.key === 'Enter' && find(event.target.value, event.shiftKey));
   addEventListener('keydown', onKey);
   addEventListener('hashchange', followLink);
   // A link to the line that is in the address leads there again.
@@ -144,12 +136,12 @@ function addPointer(name) {
     const pans = isTouch || event.shiftKey || event.altKey || event.button === 1;
     gesture = {begin: at(event), view: [view.from, view.to], pans, points: [...pointers.values()]};
     if (!isTouch) box.setPointerCapture(event.pointerId);
-    showTip(-1);
+    showCursor(-1);
   });
   box.addEventListener('pointermove', event => {
     const point = at(event);
     if (!pointers.has(event.pointerId)) {
-      if (event.pointerType !== 'touch') showTip(nearest(name, point.x, point.y), event);
+      if (event.pointerType !== 'touch') showCursor(nearest(name, point.x, point.y));
       return;
     }
     pointers.set(event.pointerId, point);
@@ -165,7 +157,7 @@ function addPointer(name) {
   };
   box.addEventListener('pointerup', end);
   box.addEventListener('pointercancel', end);
-  box.addEventListener('pointerleave', () => showTip(-1));
+  box.addEventListener('pointerleave', () => showCursor(-1));
   box.addEventListener('dblclick', event => isInside(at(event)) && showAll());
   box.addEventListener('wheel', event => onWheel(event, area(), at(event)), {passive: false});
 }
@@ -221,7 +213,7 @@ function onWheel(event, area, point) {
   const isAside = event.shiftKey || Math.abs(event.deltaX) > Math.abs(event.deltaY);
   if (!event.ctrlKey && !event.metaKey && !isAside) return;
   event.preventDefault();
-  showTip(-1);
+  showCursor(-1);
   if (isAside) pan((event.deltaX || event.deltaY) / area.w);
   else {
     const x = view.from + (point.x - area.x) / area.w * (view.to - view.from);

@@ -55,10 +55,11 @@ function unpack(said, text) {
   trace.opensAt = placeShown(said.opens);
   trace.departed = departedOf(said.departures);
   unpackState(said.state);
+  unpackHeld(said.held);
   unpackPackets(said.packets);
   // The greatest numbers count from the least of their space, as those of packets do.
   trace.acks = {at: placesOf(said.acks.line), number: summed(said.acks.greatest.by)};
-  trace.reports = {at: placesOf(said.metrics.line)};
+  trace.reports = {at: placesOf(said.metrics.line), said: said.metrics};
   for (const name of METRICS) trace.reports[name] = amounts(said.metrics[name]);
   trace.marks = marksOf();
   trace.silences = silencesOf();

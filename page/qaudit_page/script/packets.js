@@ -1,11 +1,17 @@
 // Packets over time: a lane for each packet number space, each with numbers of its own, and below
-// them how long the loss detection timer has to run.
+// them what held the sender back, and how long the loss detection timer has to run.
 
 const TIMER_LANE = 56;
 const LEAST_LANE = 26;
 const LANE_GAP = 8;
 const lanes = [];
-let shownPackets = [], timerLane = null, isDense = false, packetRadius = 3.6;
+const FATES = {
+  acked: 'acknowledged', lost: 'declared lost', open: 'no ack', gone: 'gone with its keys',
+};
+const LARGEST = 'largest acknowledged', BARE = 'not ack-eliciting', SILENCE = 'silence';
+const LEAVES = {[PROBE]: 'probe', [RECOVERY]: 'on entry to recovery'};
+const BASES = {lossDelay: 'loss delay', timeout: 'PTO (no backoff)'};
+let shownPackets = [], timerLane = null, heldLane = null, isDense = false, packetRadius = 3.6;
 
 // Whether a packet, or the time until it was ended, is in the view.
 function isPacketSeen(packet) {
@@ -39,7 +45,8 @@ function layLanes(height) {
   }
   const seen = [0, 1, 2].filter(s => counts[s]);
   const hasTimer = trace.state.timer.some(code => code !== NO_SPACE);
-  const room = height - (hasTimer ? TIMER_LANE + LANE_GAP : 0) - LANE_GAP * (seen.length - 1) - 22;
+  const below = (hasTimer ? TIMER_LANE + LANE_GAP : 0) + HELD_LANE + LANE_GAP;
+  const room = height - below - LANE_GAP * (seen.length - 1) - 22;
   const wanted = counts.map(n => n && Math.sqrt(n) + 1), sum = wanted[0] + wanted[1] + wanted[2];
   lanes.length = 0;
   let top = 22;
@@ -50,6 +57,7 @@ function layLanes(height) {
     lanes.push({space: s, top, tall, low: least[s] - pad, high: most[s] + pad});
     top += tall + LANE_GAP;
   }
+  heldLane = {top: height - below + LANE_GAP, tall: HELD_LANE};
   timerLane = hasTimer ? {top: height - TIMER_LANE, tall: TIMER_LANE - 4, ...timerRange()} : null;
 }
 
@@ -69,7 +77,8 @@ function timerRange() {
   }
   longs.sort((a, b) => a - b);
   const usual = longs[Math.floor(longs.length * 0.9)] || 1;
-  const high = Math.min(longs[longs.length - 1] || 1, usual * 3);
+  const timeouts = lines.timer.timeout, base = timeouts[Math.max(first, last - 1)] || 0;
+  const high = Math.max(Math.min(longs[longs.length - 1] || 1, usual * 3), base);
   return {low: low < high * -0.02 ? low * 1.1 : -high * 0.06, high: high * 1.1};
 }
 
@@ -93,8 +102,16 @@ function laneTicks(height) {
   if (timerLane) {
     const {low, high} = timerLane, step = niceStep((high - low) / 3);
     for (let n = Math.ceil(low / step) * step; n <= high; n += step)
-      ticks.push({v: at(timerLane, n), label: grouped(+n.toPrecision(12))});
+      ticks.push({v: at(timerLane, n), label: `${tickOf(n)} ms`});
   }
+  return ticks;
+}
+
+// The ticks of an axis, a few even if it is short.
+function axisTicks([low, high], tall, unit) {
+  const step = niceStep((high - low) / Math.max(5, tall / 30)), ticks = [];
+  for (let n = Math.ceil(low / step); n * step <= high; n++)
+    ticks.push({v: n * step, label: `${tickOf(n * step)} ${unit}`});
   return ticks;
 }
 
@@ -113,7 +130,7 @@ function drawPackets(event) {
   const context = event.drawingContext, area = event.plotArea, to = scaleOf(area, [0, 1]);
   context.save();
   for (const lane of lanes) drawLane(context, area, lane);
-  for (const lane of lanes) drawGreatest(context, area, to, lane.space);
+  if (isShown(LARGEST)) for (const lane of lanes) drawGreatest(context, area, to, lane.space);
   const drawn = thinned(area, to);
   for (const isJudged of [true, false]) for (const {space} of lanes) {
     const packets = drawn.filter(p => trace.packets.space[p] === space);
@@ -122,7 +139,8 @@ function drawPackets(event) {
     drawGlyphs(context, area, to, sent, space, isJudged);
   }
   drawLeaves(context, area, to);
-  drawLosses(context, area, to);
+  if (isShown(FATES.lost)) drawLosses(context, area, to);
+  if (heldLane) drawHeld(context, area, to);
   if (timerLane) drawTimer(context, area, to);
   drawSelectedPacket(context, area, to);
   drawOver(context, area, true);
@@ -183,7 +201,7 @@ function drawFates(context, area, to, packets, space, isJudged) {
   const limit = trace.limit < trace.count ? to.x(view.x[trace.limit]) : Infinity;
   const by = {acked: [], lost: [], gone: [], open: [], bare: []};
   for (const p of packets) if (!isJudged || at[p] < trace.limit) by[fate[p]].push(p);
-  for (const how of Object.keys(forms)) {
+  for (const how of Object.keys(forms).filter(it => isShown(FATES[it]))) {
     const [color, dashes, alpha] = forms[how], isOpen = how === 'open';
     stroked(context, color, 1, isDense && !isOpen ? [] : dashes, () => {
       for (const p of by[how]) {
@@ -198,7 +216,7 @@ function drawFates(context, area, to, packets, space, isJudged) {
       }
     }, alpha);
   }
-  if (!isDense) drawAcknowledged(context, area, to, by.acked, tone, isJudged);
+  if (!isDense && isShown(FATES.acked)) drawAcknowledged(context, area, to, by.acked, tone, isJudged);
 }
 
 // A short upright where a packet was acknowledged.
@@ -217,7 +235,7 @@ function drawAcknowledged(context, area, to, packets, tone, isJudged) {
 // The packets themselves: filled where they are ack-eliciting, and else hollow.
 function drawGlyphs(context, area, to, packets, space, isJudged) {
   const tone = toneOfSpace(space, isJudged), r = packetRadius;
-  for (const isFilled of [false, true]) {
+  for (const isFilled of isShown(BARE) ? [false, true] : [true]) {
     context.beginPath();
     for (const p of packets) {
       if (!!(trace.packets.flags[p] & ELICITING) !== isFilled || xOfPacket(p) < view.from) continue;
@@ -238,8 +256,8 @@ function drawGlyphs(context, area, to, packets, space, isJudged) {
 // A ring about a probe, a box about the packet that an entry into recovery allows.
 function drawLeaves(context, area, to) {
   const {flags, at} = trace.packets, r = packetRadius + 3;
-  const marked = shownPackets.filter(p =>
-    flags[p] & (PROBE | RECOVERY) && xOfPacket(p) >= view.from);
+  const asked = [PROBE, RECOVERY].filter(it => isShown(LEAVES[it])).reduce((a, b) => a | b, 0);
+  const marked = shownPackets.filter(p => flags[p] & asked && xOfPacket(p) >= view.from);
   for (const isJudged of [true, false])
     stroked(context, isJudged ? colors.timer : colors.soft, 1.6, [], () => {
       for (const p of marked) {
@@ -281,15 +299,36 @@ function drawTimer(context, area, to) {
     context.moveTo(area.x, zero);
     context.lineTo(area.x + area.w, zero);
   });
-  for (const isLoss of [false, true]) drawDeadlines(context, area, to, y, isLoss);
+  if (isShown(TIMED)) for (const isLoss of [false, true]) drawDeadlines(context, area, to, y, isLoss);
+  drawBases(context, area, to);
   context.restore();
   drawFired(context, area, to, y);
   const isLate = -timerLane.low > timerLane.high;
   const top = area.y + timerLane.top + (isLate ? timerLane.tall - 14 : 1);
-  const text = 'ms until the timer fires';
+  const text = 'until the timer fires (ms)';
   context.font = FONT;
   backed(context, area.x + 2, top - 1, context.measureText(text).width + 4, 14);
   words(context, text, area.x + 4, top, colors.timer, 'left', 'top');
+}
+
+// The loss delay and the probe timeout without backoff, from which deadlines are made.
+function drawBases(context, area, to) {
+  const rows = rowsOf(lines.timer, area.w);
+  [['lossDelay', colors.lost], ['timeout', colors.timer]].forEach(([name, color], k) => {
+    if (!isShown(BASES[name])) return;
+    stroked(context, color, 1.7, DASHES[name], () => {
+      let height = NaN;
+      for (const row of rows) {
+        const x = Math.max(area.x, to.x(row[0]));
+        if (height === height) context.lineTo(x, height);
+        if (row[k + 1] === null) continue;
+        const isFirst = height !== height;
+        height = inLane(area, timerLane, row[k + 1]);
+        if (isFirst) context.moveTo(x, height);
+        else context.lineTo(x, height);
+      }
+    });
+  });
 }
 
 // Of lines in one column of pixels one is drawn for each height.
@@ -317,7 +356,8 @@ function drawDeadlines(context, area, to, y, isLoss) {
 function drawFired(context, area, to, y) {
   const free = cells(area, 2);
   for (const mark of trace.marks) {
-    if ((mark.of !== 'pto' && mark.of !== 'loss') || !isSeen(view.x[mark.at])) continue;
+    if ((mark.of !== 'pto' && mark.of !== 'loss') || !isSeen(view.x[mark.at]) ||
+      !isShown(MARKS[mark.of])) continue;
     const isJudged = mark.at < trace.limit, x = to.x(view.x[mark.at]);
     const hadDeadline = mark.at > 0 && mark.at <= trace.limit;
     const at = hadDeadline ? y(mark.at - 1, mark.at) : inLane(area, timerLane, 0);
@@ -342,8 +382,8 @@ function drawSelectedPacket(context, area, to) {
 
 // The silences that are seen, each with how long it is and what is in flight.
 function drawSilences(context, area, to) {
-  if (view.byLine) return;
-  const bottom = area.y + (timerLane ? timerLane.top - LANE_GAP : area.h) - 6;
+  if (view.byLine || !heldLane || !isShown(SILENCE)) return;
+  const bottom = area.y + heldLane.top - LANE_GAP - 6;
   let drawn = 0;
   for (const it of trace.silences) {
     const left = Math.max(area.x, to.x(view.x[it.from]));
@@ -369,7 +409,7 @@ function drawSilence(context, silence, left, right, y) {
   const [long, over] = [silence.long, silence.over].map(it => milliseconds(Math.round(it)));
   const flying = silence.flying ? `${grouped(silence.flying)} B in flight` : 'nothing in flight';
   const said = [`${long} without an event, ${flying}, ${over} past the deadline`,
-    `${long}, ${flying}`, flying, long]
+    `${long} silent, ${flying}`, `${long} silent`]
     .find(it => context.measureText(it).width < right - left - 8);
   if (!said) return;
   const width = context.measureText(said).width + 6, middle = (left + right) / 2;
@@ -378,9 +418,9 @@ function drawSilence(context, silence, left, right, y) {
 }
 
 function drawNotJudged(context, area, to) {
-  if (trace.limit < trace.count) {
+  if (trace.limit < trace.count && heldLane) {
     const x = Math.max(area.x, to.x(view.x[trace.limit]));
-    const bottom = area.y + (timerLane ? timerLane.top - LANE_GAP : area.h) - 26;
+    const bottom = area.y + heldLane.top - LANE_GAP - 26;
     if (area.x + area.w - x > 70)
       words(context, 'not judged', area.x + area.w - 5, bottom, colors.soft, 'right', 'bottom',
         'italic ' + FONT);

@@ -2,7 +2,7 @@
 
 const TONES = [
   'paper', 'ink', 'soft', 'line', 'initial', 'handshake', 'app', 'lost', 'timer', 'refused',
-  'shade', 'veil', 'flight', 'least', 'latest',
+  'shade', 'veil', 'flight', 'least', 'latest', 'faint',
 ];
 const FONT = '12px system-ui, "DejaVu Sans", sans-serif';
 const DASHES = {

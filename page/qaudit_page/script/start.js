@@ -2,12 +2,15 @@
 
 const nameOfAxis = () => view.byLine ? 'line of the trace' : 'time (ms)';
 const tickOf = value => grouped(+value.toPrecision(12));
+const tickOfX = value => view.byLine ? tickOf(value) : `${tickOf(value)} ms`;
 
-// As wide as the largest packet number, unless that takes a quarter of the page.
+// As wide as the largest packet number and window, unless that takes a quarter of the page.
 function widthOfLabels() {
   const {space, number, least, count} = trace.packets, most = [0, 0, 0];
   for (let p = 0; p < count; p++) most[space[p]] = Math.max(most[space[p]], number[p]);
-  const digits = Math.max(...least.map((n, s) => grouped(n + BigInt(Math.round(most[s]))).length));
+  const numbers = least.map((n, s) => grouped(n + BigInt(Math.round(most[s]))).length);
+  const bytes = trace.state.window.reduce((a, b) => b > a ? b : a, 0);
+  const digits = Math.max(...numbers, grouped(Math.round(bytes)).length + 3);
   return Math.max(innerWidth < 600 ? 56 : 74, Math.min(innerWidth / 4, 7 * digits + 8));
 }
 
@@ -28,21 +31,19 @@ const toneOfAxes = () => ({axisLineColor: colors.soft, gridLineColor: colors.lin
 const line = (color, strokeWidth, strokePattern = null) => ({color, strokeWidth, strokePattern});
 const seriesOfWindow = () => ({
   window: line(colors.app, 2.2), ssthresh: line(colors.soft, 1.4, DASHES.ssthresh),
-  flight: {...line(colors.flight, 1.5), fillGraph: true}, marks: {plotter: drawWindowMarks},
+  flight: {...line(colors.flight, 2), fillGraph: true}, marks: {plotter: drawWindowMarks},
 });
 const seriesOfHeadroom = () => ({
   headroom: {...line(colors.flight, 1.5), fillGraph: true}, marks: {plotter: drawHeadroomMarks},
 });
 const seriesOfRtt = () => ({
   smoothed: line(colors.initial, 2.2), latest: line(colors.latest, 1),
-  least: line(colors.least, 1.4, DASHES.least),
-  lossDelay: line(colors.lost, 2, DASHES.lossDelay),
-  timeout: line(colors.timer, 2, DASHES.timeout), marks: {plotter: drawRttMarks},
+  least: line(colors.least, 1.4, DASHES.least), marks: {plotter: drawRttMarks},
 });
 
 function makeCharts() {
   const pixelsPerLabel = innerWidth < 600 ? 70 : 100;
-  const x = {axisLabelFormatter: tickOf, axisLabelWidth: 74, pixelsPerLabel};
+  const x = {axisLabelFormatter: tickOfX, axisLabelWidth: 92, pixelsPerLabel};
   const y = {axisLabelWidth: widthOfLabels(), valueRange: [0, 1], pixelsPerLabel: 34};
   const ticker = () => charts.packets ? laneTicks(charts.packets.getArea().h) : [];
   // The legend of dygraphs sets attributes for style, which the policy of the page forbids.
@@ -51,18 +52,18 @@ function makeCharts() {
     labels: ['x', 'packets'], plotter: drawPackets, ...toneOfAxes(),
     axes: {x, y: {...y, ticker}},
   }));
-  const formatter = {axisLabelFormatter: tickOf};
+  const tickerOf = (range, unit) => (a, b, pixels) => axisTicks(range(), pixels, unit);
   charts.window = new Dygraph(byId('chart-window'), rowsOf(lines.window, 200), options({
     labels: ['x', 'window', 'ssthresh', 'flight', 'marks'], ...toneOfAxes(),
-    series: seriesOfWindow(), axes: {x, y: {...y, ...formatter}},
+    series: seriesOfWindow(), axes: {x: {...x, drawAxis: false}, y: {...y, ticker: tickerOf(() => windowRange, 'B')}},
   }));
   charts.headroom = new Dygraph(byId('chart-headroom'), rowsOf(lines.headroom, 200), options({
     labels: ['x', 'headroom', 'marks'], ...toneOfAxes(), series: seriesOfHeadroom(),
     axes: {x: {...x, drawAxis: false}, y: {...y, ticker: () => roomTicks}},
   }));
   charts.rtt = new Dygraph(byId('chart-rtt'), rowsOf(lines.rtt, 200), options({
-    labels: ['x', 'smoothed', 'latest', 'least', 'lossDelay', 'timeout', 'marks'],
-    ...toneOfAxes(), series: seriesOfRtt(), axes: {x, y: {...y, ...formatter}},
+    labels: ['x', 'smoothed', 'latest', 'least', 'marks'],
+    ...toneOfAxes(), series: seriesOfRtt(), axes: {x, y: {...y, ticker: tickerOf(() => rttRange, 'ms')}},
     xlabel: nameOfAxis(),
   }));
   const departed = trace.departed.size ? `, ${grouped(trace.departed.size)} lines with violations` : '';
@@ -82,18 +83,33 @@ function recolor() {
 
 // Keys: the shapes of the diagrams with their names.
 
+// An entry has its words and a shape; a click hides what it is of, unless it is always there.
 function fillKey(id, entries) {
-  const items = entries.filter(entry => entry[0]).map(([, text, draw]) => {
-    const item = element('span'), canvas = document.createElement('canvas');
-    const ratio = devicePixelRatio || 1;
-    Object.assign(canvas, {width: 26 * ratio, height: 16 * ratio});
-    const context = canvas.getContext('2d');
-    context.scale(ratio, ratio);
-    draw(context);
-    item.append(canvas, text);
-    return item;
-  });
-  byId(id).replaceChildren(...items);
+  byId(id).replaceChildren(...entries.filter(entry => entry[0]).map(keyEntry));
+}
+
+function keyEntry([, text, draw, isFixed]) {
+  const item = element(isFixed ? 'span' : 'button'), canvas = document.createElement('canvas');
+  const ratio = devicePixelRatio || 1;
+  Object.assign(canvas, {width: 26 * ratio, height: 16 * ratio});
+  const context = canvas.getContext('2d');
+  context.scale(ratio, ratio);
+  draw(context);
+  item.append(canvas, text);
+  if (isFixed) return item;
+  item.type = 'button';
+  item.setAttribute('aria-pressed', String(isShown(text)));
+  item.addEventListener('click', () => toggle(text));
+  return item;
+}
+
+// Hides what an entry of a key is of, or shows it again, and says so. Two keys may have one entry.
+function toggle(text) {
+  if (!hidden.delete(text)) hidden.add(text);
+  for (const item of document.querySelectorAll('.key button'))
+    if (item.textContent === text) item.setAttribute('aria-pressed', String(isShown(text)));
+  byId('said').textContent = `${text}: ${isShown(text) ? 'shown' : 'hidden'}`;
+  redraw();
 }
 
 function level(context, color, width, dashes, alpha) {
@@ -120,71 +136,97 @@ function packetSample(context, space, isFilled, path) {
 function fillKeys() {
   const {space, flags, count} = trace.packets, used = [2, 1, 0].find(s => space.includes(s)) ?? 2;
   const any = test => { for (let p = 0; p < count; p++) if (test(p)) return true; return false; };
-  const has = of => trace.marks.some(mark => mark.of === of);
-  const tone = colors[SPACES[used]];
+  const ends = how => any(p => trace.packets.how[p] === how), tone = colors[SPACES[used]];
   fillKey('key-packets', [
-    ...[0, 1, 2].map(s => [space.includes(s), SPACES[s], c => packetSample(c, s, true)]),
-    [any(p => !(flags[p] & ELICITING)), 'not ack-eliciting', c => packetSample(c, used, false)],
-    [any(p => flags[p] & PROBE), 'probe', c => packetSample(c, used, true, () =>
+    [any(p => !(flags[p] & ELICITING)), BARE, c => packetSample(c, used, false)],
+    [any(p => flags[p] & PROBE), LEAVES[PROBE], c => packetSample(c, used, true, () =>
       c.arc(13, 8, 7, 0, 2 * Math.PI))],
-    [any(p => flags[p] & RECOVERY), 'on entry to recovery', c => packetSample(c, used, true, () =>
+    [any(p => flags[p] & RECOVERY), LEAVES[RECOVERY], c => packetSample(c, used, true, () =>
       c.rect(6, 1, 14, 14))],
-    [any(p => trace.packets.how[p] === 'acked'), 'until acknowledged', c =>
-      level(c, tone, 1, [], 0.6)],
-    [any(p => trace.packets.how[p] === 'lost'), 'until declared lost', c => {
+    [ends('acked'), FATES.acked, c => level(c, tone, 1, [], 0.6)],
+    [ends('lost'), FATES.lost, c => {
       level(c, colors.lost, 1, [3, 3]);
       stroked(c, colors.lost, 2, [], () => cross(c, 21, 8, 3.5));
     }],
-    [any(p => trace.packets.how[p] === 'open'), 'no ack', c => level(c, tone, 1.3, [1, 4])],
-    [any(p => trace.packets.how[p] === 'gone'), 'until its keys are discarded', c =>
-      level(c, tone, 1, [1, 3])],
-    [trace.acks.at.length, 'largest acknowledged', c => stroked(c, tone, 1.4, [], () => {
+    [ends('open'), FATES.open, c => level(c, tone, 1.3, [1, 4])],
+    [ends('gone'), FATES.gone, c => level(c, tone, 1, [1, 3])],
+    [trace.acks.at.length, LARGEST, c => stroked(c, tone, 1.4, [], () => {
       c.moveTo(1, 13); c.lineTo(10, 13); c.lineTo(10, 4); c.lineTo(25, 4);
     }, 0.6)],
-    [timerLane || trace.state.timer.some(code => code !== NO_SPACE), 'timer set',
-      c => stroked(c, colors.timer, 1.3, [], () => { c.moveTo(2, 2); c.lineTo(24, 14); })],
-    [has('pto'), 'probe timeout', c => { c.beginPath(); triangle(c, 13, 8, 5);
-      c.fillStyle = colors.timer; c.fill(); }],
-    [has('loss'), 'loss timer', c => shaped(c, colors.timer, 1.6, triangle, 5)],
-    [has('discard'), 'keys discarded', c => standingLine(c, colors.soft, 1.3, DASHES.discard)],
-    [trace.verdictAt >= 0, 'line of the verdict', c =>
-      standingLine(c, colors.refused, 2.5, [])],
-    [trace.departed.size > 1, 'other violation', c =>
-      standingLine(c, colors.refused, 1.3, DASHES.departed)],
-    [trace.limit < trace.count, 'not judged', c => hatched(c, 1, 1, 24, 14, 1)],
+    [trace.silences.length, SILENCE, c => stroked(c, colors.ink, 1.3, [], () => {
+      c.moveTo(6, 4); c.lineTo(2, 8); c.lineTo(24, 8); c.lineTo(20, 4);
+    })],
+    ...keysOfEvents(), ...keysOfTimer(),
   ]);
-  fillKeysOfState(has);
+  fillKeysOfState();
+}
+
+function keysOfEvents() {
+  const has = of => trace.marks.some(mark => mark.of === of);
+  const isSplit = trace.departed.size > 1;
+  return [
+    [has('discard') || has('confirmed') || has('keys'), MARKS.discard, c =>
+      standingLine(c, colors.soft, 1.3, DASHES.discard)],
+    [trace.verdictAt >= 0, isSplit ? 'first violation' : 'line of the verdict', c =>
+      standingLine(c, colors.refused, 2.5, []), true],
+    [isSplit, OTHERS, c => standingLine(c, colors.faint, 1.3, DASHES.departed)],
+    [trace.limit < trace.count, 'not judged', c => hatched(c, 1, 1, 24, 14, 1), true],
+  ];
+}
+
+const isHeld = code => code === LATE ? trace.held.late.size > 0 : trace.held.after.includes(code);
+
+// The lanes of what held the sender back and of the timer.
+function keysOfTimer() {
+  const has = of => trace.marks.some(mark => mark.of === of);
+  const isSet = trace.state.timer.some(code => code !== NO_SPACE);
+  const isSampled = isSet && trace.firstSample < trace.count;
+  return [
+    ...HELD.map((it, code) => [isHeld(code), it.name, c =>
+      heldBlock(c, code, {left: 1, top: 1, wide: 24, tall: 14}, false)]),
+    [isSet, TIMED, c => stroked(c, colors.timer, 1.3, [], () => {
+      c.moveTo(2, 2); c.lineTo(24, 14);
+    })],
+    [has('pto'), MARKS.pto, c => { c.beginPath(); triangle(c, 13, 8, 5);
+      c.fillStyle = colors.timer; c.fill(); }],
+    [has('loss'), MARKS.loss, c => shaped(c, colors.timer, 1.6, triangle, 5)],
+    [isSampled, BASES.lossDelay, c => level(c, colors.lost, 1.4, DASHES.lossDelay)],
+    [isSampled, BASES.timeout, c => level(c, colors.timer, 1.4, DASHES.timeout)],
+  ];
 }
 
 function fillKeysOfState() {
   const {reports, culprits, state} = trace;
-  const reported = name => reports[name].some(value => value === value);
-  const refused = chart => [culprits.some(it => it.chart === chart), 'refused value',
+  const mark = (name, color, shape) => [reports[name].some(value => value === value),
+    REPORTED[name], c => shaped(c, color, 1.3, shape, 5)];
+  const refused = chart => [culprits.some(it => it.chart === chart), CULPRIT,
     c => shaped(c, colors.refused, 3, cross, 5)];
   fillKey('key-window', [
     refused('window'),
-    [true, 'congestion window', c => level(c, colors.app, 2.2, [])],
-    [true, 'bytes in flight', c => { c.globalAlpha = 0.2; c.fillStyle = colors.flight;
+    [true, NAMES.window, c => level(c, colors.app, 2.2, [])],
+    [true, NAMES.flight, c => { c.globalAlpha = 0.2; c.fillStyle = colors.flight;
       c.fillRect(1, 8, 24, 8); c.globalAlpha = 1; level(c, colors.flight, 1.5, []); }],
-    [state.ssthresh.some(it => it === it), 'ssthresh', c =>
+    [state.ssthresh.some(it => it === it), NAMES.ssthresh, c =>
       level(c, colors.soft, 1.4, DASHES.ssthresh)],
-    [reported('window'), 'window as reported', c => shaped(c, colors.app, 1.3, diamond, 5)],
-    [reported('bytes_in_flight'), 'in flight as reported', c =>
-      shaped(c, colors.flight, 1.3, circle, 5)],
+    mark('window', colors.app, diamond), mark('bytes_in_flight', colors.flight, circle),
+    mark('ssthresh', colors.soft, diamond),
+    [state.in_flight.some((it, i) => it > state.window[i]), 'past the window', c => {
+      c.fillStyle = colors.refused; c.fillRect(1, 6, 24, 5); }, true],
   ]);
   const isSampled = trace.firstSample < trace.count;
   fillKey('key-rtt', [
     refused('rtt'),
-    [isSampled, 'smoothed', c => level(c, colors.initial, 2.2, [])],
-    [isSampled, 'latest', c => level(c, colors.latest, 1, [])],
-    [isSampled, 'min', c => level(c, colors.least, 1.4, DASHES.least)],
-    [isSampled, 'loss delay', c => level(c, colors.lost, 1.4, DASHES.lossDelay)],
-    [isSampled, 'PTO (no backoff)', c => level(c, colors.timer, 1.4, DASHES.timeout)],
-    [trace.firstSample > 0, 'assumed', c => level(c, colors.initial, 1.6, [2, 3])],
-    [reported('smoothed_rtt'), 'smoothed as reported', c =>
-      shaped(c, colors.initial, 1.3, diamond, 5)],
+    [isSampled, NAMES.smoothed, c => level(c, colors.initial, 2.2, [])],
+    [isSampled, NAMES.latest, c => level(c, colors.latest, 1, [])],
+    [isSampled, NAMES.least, c => level(c, colors.least, 1.4, DASHES.least)],
+    [trace.firstSample > 0, 'assumed', c => level(c, colors.initial, 1.6, [2, 3]), true],
+    mark('smoothed_rtt', colors.initial, diamond), mark('latest_rtt', colors.latest, circle),
+    mark('min_rtt', colors.least, circle),
   ]);
 }
+
+// What a browser prefers by which the colours change.
+const SCHEMES = ['(prefers-color-scheme: dark)', '(forced-colors: active)', '(prefers-contrast: more)'];
 
 // Paper is light: in a dark page what is drawn is turned round there, by page.css.
 function noteScheme() {
@@ -210,13 +252,16 @@ function begin(started) {
   fillKeys();
   if (!followAddress()) {
     if (trace.opensAt >= 0) select(trace.opensAt, {zooms: true, isNamed: false});
-    else fillTable();
+    else {
+      fillTable();
+      fillPanel();
+    }
   }
   update();
   if (trace.verdict.line && trace.verdictAt < 0 && trace.verdict.line <= trace.total)
     tell(`Line ${trace.verdict.line} is not in this page, which has lines ${trace.first} to ` +
       `${trace.first + trace.count - 1} of ${trace.total}.`);
-  matchMedia('(prefers-color-scheme: dark)').addEventListener('change', () => {
+  for (const feature of SCHEMES) matchMedia(feature).addEventListener('change', () => {
     if (matchMedia('print').matches) return;
     noteScheme();
     recolor();
@@ -225,6 +270,10 @@ function begin(started) {
   window.qauditPage = {
     ready: performance.now(), took: performance.now() - started,
     frames: () => frames, lastFrame: () => lastFrame, trace, view, lines,
+    ranges: () => ({rtt: rttRange, window: windowRange}), heldLane: () => heldLane, cursor: () => cursorAt, heldColumns: () => {
+      const area = charts.packets.getArea();
+      return [...heldColumns(area, scaleOf(area, [0, 1]))];
+    },
     selected: () => view.selected < 0 ? null : trace.first + view.selected,
   };
 }

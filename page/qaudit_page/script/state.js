@@ -4,7 +4,17 @@ let windowRange = [0, 1], rttRange = [0, 1], roomRange = [0, 1], roomRows = [];
 let roomTicks = [];
 // If the window is passed, so many times the excess is seen of what is left of it.
 const ROOM_TIMES = 2;
-const lines = {window: {}, rtt: {}, headroom: {}};
+const lines = {window: {}, rtt: {}, headroom: {}, timer: {}};
+// What the key calls the lines of the diagrams and the reported values.
+const NAMES = {
+  window: 'congestion window', flight: 'bytes in flight', ssthresh: 'ssthresh',
+  headroom: 'headroom', smoothed: 'smoothed', latest: 'latest', least: 'min',
+};
+const REPORTED = {
+  window: 'reported window', ssthresh: 'reported ssthresh',
+  bytes_in_flight: 'reported in flight', smoothed_rtt: 'reported smoothed',
+  latest_rtt: 'reported latest', min_rtt: 'reported min',
+};
 
 // The series of both diagrams, in bytes and in milliseconds.
 function setLines() {
@@ -14,7 +24,10 @@ function setLines() {
   lines.headroom = {headroom: state.window.map((bytes, i) => bytes - state.in_flight[i])};
   lines.rtt = {
     smoothed: inTime(state.smoothed_rtt), latest: inTime(state.latest_rtt),
-    least: inTime(state.min_rtt), lossDelay: lossDelay().map((v, i) => i >= firstSample ? v : NaN),
+    least: inTime(state.min_rtt),
+  };
+  lines.timer = {
+    lossDelay: lossDelay().map((v, i) => i >= firstSample ? v : NaN),
     timeout: timeout().map((v, i) => i >= firstSample ? v : NaN),
   };
 }
@@ -83,6 +96,14 @@ function rowsOf(series, pixels) {
     rows.push([view.x[end], ...columns.map(it => orNull(it[last])), 0]);
   if (!rows.length)
     for (const x of [view.low, view.high]) rows.push([x, ...columns.map(() => null), 0]);
+  return withoutHidden(rows, Object.keys(series));
+}
+
+// Rows without the series that the key hides.
+function withoutHidden(rows, names) {
+  names.forEach((name, k) => {
+    if (!isShown(NAMES[name])) for (const row of rows) row[k + 1] = null;
+  });
   return rows;
 }
 
@@ -121,11 +142,19 @@ function padded([low, high]) {
   return [low - room, high + room * 1.6];
 }
 
+// Room for half of a label below 0, since the lane of the headroom comes right below.
+const HALF_LABEL = 8;
+function above([low, high]) {
+  const tall = charts.window.getArea().h;
+  return [low || -high * HALF_LABEL / (tall - HALF_LABEL), high];
+}
+
 const pixelsOf = chart => Math.max(200, charts[chart].getArea().w);
 
 function updateWindow() {
-  const rows = rowsOf(lines.window, pixelsOf('window')), {window, bytes_in_flight} = trace.reports;
-  windowRange = padded(extremes(rows, [window, bytes_in_flight], 'window'));
+  const rows = rowsOf(lines.window, pixelsOf('window'));
+  const reported = ['window', 'bytes_in_flight'].filter(it => isShown(REPORTED[it]));
+  windowRange = above(padded(extremes(rows, reported.map(it => trace.reports[it]), 'window')));
   const axes = {y: {valueRange: windowRange}};
   charts.window.updateOptions({file: rows, dateWindow: [view.from, view.to], axes});
 }
@@ -138,7 +167,7 @@ function updateHeadroom() {
   high = Math.max(high, 0);
   if (low < 0) high = Math.min(high, -low * ROOM_TIMES);
   roomRange = [low * 1.4 - (high || 1) * 0.08, (high || 1) * 1.25];
-  roomTicks = [...new Set([low, 0, high])].map(v => ({v, label: grouped(Math.round(v))}));
+  roomTicks = [...new Set([low, 0, high])].map(v => ({v, label: `${grouped(Math.round(v))} B`}));
   const axes = {y: {valueRange: roomRange}};
   charts.headroom.updateOptions({file: roomRows, dateWindow: [view.from, view.to], axes});
 }
@@ -155,12 +184,11 @@ function drawHeadroomMarks(event) {
   });
   drawExcess(context, area, to);
   const free = cells(area, 6);
-  stroked(context, colors.refused, 2, [], () => {
-    for (const {at, room} of roomsSeen()) {
-      const x = to.x(view.x[at]), y = Math.min(to.y(room), area.y + area.h - 4);
-      if (free(x, y)) cross(context, x, y, 3.5);
-    }
-  });
+  for (const {at, room} of roomsSeen()) {
+    const x = to.x(view.x[at]), y = Math.min(to.y(room), area.y + area.h - 4);
+    const isFirst = at === trace.verdictAt, tone = isFirst ? colors.refused : colors.faint;
+    if (free(x, y)) stroked(context, tone, 2, [], () => cross(context, x, y, 3.5));
+  }
   drawOver(context, area, null);
   const text = 'headroom: window less in flight (bytes)';
   context.font = FONT;
@@ -185,22 +213,26 @@ function drawExcess(context, area, to) {
 
 function updateRtt() {
   const rows = rowsOf(lines.rtt, pixelsOf('rtt'));
-  rttRange = padded(extremes(rows, rttReports(), 'rtt'));
+  const reported = RTTS.filter(it => isShown(REPORTED[it])).map(chartOfReport);
+  rttRange = padded(extremes(rows, reported, 'rtt'));
   if (trace.firstSample >= trace.count && trace.judged)
     rttRange = [0, trace.state.smoothed_rtt[trace.limit - 1] / trace.scale * 1.3];
   const axes = {y: {valueRange: rttRange}};
   charts.rtt.updateOptions({file: rows, dateWindow: [view.from, view.to], axes});
 }
 
+const RTTS = ['smoothed_rtt', 'latest_rtt', 'min_rtt'];
 let rttReported = null;
 function rttReports() {
   const inTime = column => column.map(value => value / trace.scale);
-  rttReported ||= ['smoothed_rtt', 'latest_rtt', 'min_rtt'].map(it => inTime(trace.reports[it]));
+  rttReported ||= RTTS.map(it => inTime(trace.reports[it]));
   return rttReported;
 }
 
 // The values that the sender reports, as marks; one above the diagram as an arrow.
-function drawReported(context, area, range, column, color, shape) {
+function drawReported(context, area, range, name, color, shape) {
+  if (!isShown(REPORTED[name])) return;
+  const column = chartOfReport(name);
   const to = scaleOf(area, range), {at} = trace.reports;
   const free = cells(area, at.length < 300 ? 4 : 12);
   for (const isJudged of [true, false])
@@ -216,6 +248,9 @@ function drawReported(context, area, range, column, color, shape) {
     });
 }
 
+// The reported values in the unit of their diagram.
+const chartOfReport = name => /rtt/.test(name) ? rttReports()[RTTS.indexOf(name)] : trace.reports[name];
+
 const circle = (context, x, y, r) => {
   context.moveTo(x + r * 0.8, y);
   context.arc(x, y, r * 0.8, 0, 2 * Math.PI);
@@ -228,16 +263,17 @@ function culpritsSeen(chart) {
     .map(({at, value}) => ({at, shown: value / by}));
 }
 
-// A cross at each value that is refused or departs: at those of the verdict a great one.
+// A cross at each value that is refused or departs: a great one at that of the verdict, and faint
+// ones at those after it, which may follow from it.
 function drawCulprits(context, area, range, chart) {
   const to = scaleOf(area, range), points = culpritsSeen(chart).map(({at, shown}) =>
     ({at, x: to.x(view.x[at]), y: Math.max(area.y + 9, to.y(shown))}));
   const free = cells(area, points.length > MANY_DEPARTURES ? 10 : 4);
-  stroked(context, colors.refused, 1.6, [], () => {
+  if (isShown(OTHERS)) stroked(context, colors.faint, 2.2, [], () => {
     for (const {at, x, y} of points)
-      if (at !== trace.verdictAt && free(x, y)) cross(context, x, y, 3.2);
+      if (at !== trace.verdictAt && free(x, y)) cross(context, x, y, 3.5);
   });
-  for (const {at, x, y} of points) if (at === trace.verdictAt) {
+  if (isShown(CULPRIT)) for (const {at, x, y} of points) if (at === trace.verdictAt) {
     context.beginPath();
     context.arc(x, y, 8.5, 0, 2 * Math.PI);
     context.fillStyle = colors.paper;
@@ -248,11 +284,10 @@ function drawCulprits(context, area, range, chart) {
 
 function drawWindowMarks(event) {
   const context = event.drawingContext, area = event.plotArea;
-  const {window, ssthresh, bytes_in_flight} = trace.reports;
   context.save();
-  drawReported(context, area, windowRange, window, colors.app, diamond);
-  drawReported(context, area, windowRange, ssthresh, colors.soft, diamond);
-  drawReported(context, area, windowRange, bytes_in_flight, colors.flight, circle);
+  drawReported(context, area, windowRange, 'window', colors.app, diamond);
+  drawReported(context, area, windowRange, 'ssthresh', colors.soft, diamond);
+  drawReported(context, area, windowRange, 'bytes_in_flight', colors.flight, circle);
   drawOver(context, area, false);
   drawCulprits(context, area, windowRange, 'window');
   context.restore();
@@ -260,12 +295,11 @@ function drawWindowMarks(event) {
 
 function drawRttMarks(event) {
   const context = event.drawingContext, area = event.plotArea;
-  const [smoothed, latest, least] = rttReports();
   context.save();
   drawAssumed(context, area);
-  drawReported(context, area, rttRange, smoothed, colors.initial, diamond);
-  drawReported(context, area, rttRange, latest, colors.latest, circle);
-  drawReported(context, area, rttRange, least, colors.least, circle);
+  drawReported(context, area, rttRange, 'smoothed_rtt', colors.initial, diamond);
+  drawReported(context, area, rttRange, 'latest_rtt', colors.latest, circle);
+  drawReported(context, area, rttRange, 'min_rtt', colors.least, circle);
   drawOver(context, area, false);
   drawCulprits(context, area, rttRange, 'rtt');
   context.restore();

@@ -1,17 +1,16 @@
-// The lines about the selected one, each with the state behind it; and what the pointer is at.
+// The lines about the selected one, each with the state after it; and what the pointer is at.
 
 const ROWS = 24;
 const MOST_OF_LINE = 3000;
-const MOST_OF_TIP = 600;
 let tableFrom = 0;
 
 // The columns behind the text of a line, with their amounts.
 const COLUMNS = [
-  ['window', i => bytes('window', i)], ['in flight', i => bytes('in_flight', i)],
-  ['ssthresh', i => bytes('ssthresh', i) || 'none'], ['latest', i => timeOf('latest_rtt', i)],
-  ['min', i => timeOf('min_rtt', i)], ['smoothed', i => timeOf('smoothed_rtt', i)],
-  ['rttvar', i => timeOf('rttvar', i)], ['PTOs', i => digitsOf('pto_count', i)],
-  ['owed', owedAt], ['timer', timerAt],
+  ['window (B)', i => bytes('window', i)], ['in flight (B)', i => bytes('in_flight', i)],
+  ['ssthresh (B)', i => bytes('ssthresh', i) || 'none'],
+  ['latest (ms)', i => timeOf('latest_rtt', i)], ['min (ms)', i => timeOf('min_rtt', i)],
+  ['smoothed (ms)', i => timeOf('smoothed_rtt', i)], ['rttvar (ms)', i => timeOf('rttvar', i)],
+  ['PTOs', i => digitsOf('pto_count', i)], ['owed', owedAt], ['timer (ms)', timerAt],
 ];
 
 const bytes = (name, place) => grouped(digitsOf(name, place));
@@ -79,9 +78,10 @@ function rowOfLine(place) {
   for (const words of judgements(place)) said.append(element('span', words, 'tag'), ' ');
   put(said, trace.lines[place] || '', MOST_OF_LINE);
   const time = hasTime(place) ? withoutUnit(milliseconds(trace.time[place])) : '';
-  row.append(number, cellOf('time', time), said);
+  row.append(number, cellOf('time (ms)', time), said);
   if (hasState(place)) {
-    for (const [name, amount] of COLUMNS) row.append(cellOf(name, amount(place)));
+    for (const [name, amount] of COLUMNS)
+      row.append(cellOf(name, amount(place), changedTo(amount, place)));
   } else {
     // The text has the room of most of the columns that are empty.
     said.colSpan = COLUMNS.length - 1;
@@ -90,8 +90,8 @@ function rowOfLine(place) {
   return row;
 }
 
-function cellOf(name, text) {
-  const cell = element('td', text);
+function cellOf(name, text, isChanged) {
+  const cell = element('td', text, isChanged ? 'changed' : '');
   cell.dataset.name = name;
   return cell;
 }
@@ -121,6 +121,7 @@ function select(place, {stays = false, zooms = false, isNamed = true} = {}) {
   else if (!isSeen(x)) show(x - half, x + half);
   else redraw();
   byId('said').textContent = summaryOf(at);
+  fillPanel();
   if (isNamed) nameLine(trace.first + at);
 }
 
@@ -138,8 +139,8 @@ function summaryOf(place) {
   const line = `Line ${trace.first + place}, ${KINDS[trace.kind[place]]}`;
   const time = hasTime(place) ? `, ${milliseconds(trace.time[place])}` : '';
   const packet = trace.packets.of[place] >= 0 ? `, ${fateOf(trace.packets.of[place])}` : '';
-  const stand = standingOf(place);
-  return `${line}${time}${packet}${stand && `, ${stand}`}`;
+  const stand = standingOf(place), held = heldWords(place);
+  return `${line}${time}${packet}${stand && `, ${stand}`}${held && `; after it ${held}`}`;
 }
 
 // What became of a packet.
@@ -161,32 +162,11 @@ function fateOf(packet) {
   return told.join(', ');
 }
 
-function showTip(place, event) {
-  const box = byId('tip');
-  box.hidden = place < 0;
-  if (place < 0) return;
-  const time = hasTime(place) ? ` \u00b7 ${milliseconds(trace.time[place])}` : '';
-  const stand = standingOf(place) && ` \u00b7 ${standingOf(place)}`;
-  const head = element('div');
-  head.append(element('b', `line ${trace.first + place}`), time, stand);
-  const said = element('div', undefined, 'text');
-  put(said, trace.lines[place] || '', MOST_OF_TIP);
-  box.replaceChildren(head, said);
-  if (trace.packets.of[place] >= 0) box.append(element('div', fateOf(trace.packets.of[place])));
-  if (hasState(place)) {
-    const amounts = COLUMNS.map(([name, amount]) => `${name} ${amount(place)}`);
-    box.append(element('div', amounts.join(' \u00b7 '), 'state'));
-  }
-  const {offsetWidth: width, offsetHeight: height} = box;
-  const isLow = event.clientY + 18 + height > innerHeight;
-  box.style.left = `${Math.max(4, Math.min(innerWidth - width - 8, event.clientX + 16))}px`;
-  box.style.top = `${isLow ? Math.max(4, event.clientY - height - 14) : event.clientY + 18}px`;
-}
-
 // The place of what lies nearest to the pointer in a diagram; -1 where it is at none.
 function nearest(name, x, y) {
   const area = charts[name].getArea();
   if (x < area.x || x > area.x + area.w || y < area.y || y > area.y + area.h) return -1;
+  if (name === 'packets' && isHeldLane(y - area.y)) return heldPlace(area, x);
   const at = name === 'packets' ? nearestPacket(area, x, y) : -1;
   if (at >= 0) return at;
   const to = scaleOf(area, [0, 1]), isNear = place => Math.abs(to.x(view.x[place]) - x) < 4;
@@ -198,6 +178,12 @@ function nearest(name, x, y) {
   const value = view.from + (x - area.x) / area.w * (view.to - view.from), next = placeAt(value);
   if (next <= 0 || next >= trace.count) return Math.max(0, Math.min(trace.count - 1, next));
   return view.x[next] - value < value - view.x[next - 1] ? next : next - 1;
+}
+
+// The last line before an x: the one after which the sender was held back there.
+function heldPlace(area, x) {
+  const value = view.from + (x - area.x) / area.w * (view.to - view.from);
+  return Math.max(0, Math.min(trace.count - 1, placeAt(value)) - 1);
 }
 
 function nearestPacket(area, x, y) {

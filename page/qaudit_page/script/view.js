@@ -2,6 +2,14 @@
 
 const view = {byLine: false, x: new Float64Array(0), low: 0, high: 1, from: 0, to: 1, selected: -1};
 const shownSpaces = [true, true, true];
+// What the key hides, by its words there.
+const hidden = new Set();
+const isShown = name => !hidden.has(name);
+const OTHERS = 'other violation', CULPRIT = 'refused value', TIMED = 'timer set';
+const MARKS = {
+  pto: 'probe timeout', loss: 'loss timer', discard: 'handshake event',
+  confirmed: 'handshake event', keys: 'handshake event',
+};
 const charts = {};
 // Above so many lines that depart each is drawn as a tick of this height, in pixels.
 const MANY_DEPARTURES = 40;
@@ -124,6 +132,7 @@ function update() {
   updateHeadroom();
   updateRtt();
   updateStrip();
+  moveCursors();
   lastFrame = performance.now() - begun;
   frames++;
 }
@@ -148,7 +157,7 @@ function drawUnder(context, area) {
     const from = to.x(view.x[trace.limit]), x = Math.max(area.x, from);
     if (x < area.x + area.w) hatched(context, x, area.y, area.x + area.w - x, area.h, area.x);
   }
-  const seen = trace.marks.filter(mark => isSeen(view.x[mark.at]));
+  const seen = trace.marks.filter(mark => isSeen(view.x[mark.at]) && isShown(MARKS[mark.of]));
   let before = -9;
   for (const mark of seen) {
     const x = to.x(view.x[mark.at]);
@@ -182,7 +191,7 @@ function drawOver(context, area, hasLabels) {
   for (const mark of trace.marks) {
     const x = to.x(view.x[mark.at]);
     // Of thousands of marks a few have a flag.
-    if (!isSeen(view.x[mark.at]) || (x - before < 4 && mark.at > at + 20)) continue;
+    if (!isSeen(view.x[mark.at]) || !isShown(MARKS[mark.of]) || (x - before < 4 && mark.at > at + 20)) continue;
     [before, at] = [x, mark.at];
     flags.push({x, text: mark.label, color: toneOfMark(mark.of)});
   }
@@ -205,10 +214,11 @@ function drawDeadline(context, area, to, verdict) {
   return {x, text: 'its deadline', color: colors.timer, boxed: true};
 }
 
-// The lines that depart, behind the first: as uprights, or where many are seen as short ones at the
-// bottom. Their flags, where they are few.
+// The lines that depart after the first, which may follow from it: faint uprights, or short ones at
+// the bottom if many are seen. Their flags, if they are few.
 function drawDeparted(context, area, to) {
   const seen = [...trace.departed].filter(([at]) => at !== trace.verdictAt && isSeen(view.x[at]));
+  if (!isShown(OTHERS)) return [];
   const isMany = seen.length > MANY_DEPARTURES, tall = isMany ? TICK : area.h, flags = [];
   let before = -9;
   for (const [at, rules] of seen) {
@@ -216,9 +226,9 @@ function drawDeparted(context, area, to) {
     if (x - before < 1) continue;
     before = x;
     const part = {y: area.y + area.h - tall, h: tall};
-    upright(context, part, Math.round(x) + 0.5, colors.refused, 1.3, isMany ? [] : DASHES.departed);
+    upright(context, part, Math.round(x) + 0.5, colors.faint, 1.3, isMany ? [] : DASHES.departed);
     const names = [...new Set(rules.map(it => it.rule))].join(' ');
-    if (!isMany) flags.push({x, text: names, color: colors.refused});
+    if (!isMany) flags.push({x, text: names, color: colors.faint});
   }
   return flags;
 }
