@@ -113,13 +113,26 @@ def of_losses(amounts: Amounts) -> Facts:
     said, told = amounts.said, []
     owed = f"{said['owed_space']} {amounts.numbers('owed')}" if said["owed"] else "nothing"
     told.append(("owed", owed))
+    told += counted(said, "owed")
     if amounts.has("free"):
         free = f"{said['free_space']} {amounts.numbers('free')}" if said["free"] else "nothing"
         told.append(("free to be declared", free))
     for key, label in (("unnamed", "owed and not named"), ("unowed", "named and not owed")):
         if said.get(key):
             told.append((label, amounts.numbers(key)))
-    return told
+    return told + counted(said, "unowed")
+
+
+def counted(said: Object, key: str) -> Facts:
+    """How many packets were sent after each of these, if the header says that the packet threshold
+    counts packets."""
+    return [
+        (
+            f"packets sent after {it['number']}, up to {it['up_to']}",
+            f"{it['packets']} (packet_threshold {it['packet_threshold']})",
+        )
+        for it in said.get(f"{key}_counted") or []
+    ]
 
 
 def of_numbers(amounts: Amounts) -> Facts:

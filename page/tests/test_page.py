@@ -100,7 +100,7 @@ def shown_of(key: str, value: Any, unit: str) -> list[str]:
         return []
     if value is None:
         return ["none"]
-    if key == "differences":
+    if key == "differences" or key.endswith("_counted"):
         return [
             it
             for one in value
