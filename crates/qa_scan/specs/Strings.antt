@@ -1,5 +1,6 @@
 -- What stands in a string, to the lexer of JSON.
-use Rattle.std.specs.Prelude.{◌≡◌, ◌≤◌, ◌+◌, ◌||◌, ◌==◌, ℕ, List, Bool, Some, nat_le, length, drop, get_or}
+use Rattle.std.specs.Prelude.{◌≡◌, ◌≤◌, ◌+◌, ◌||◌, ◌==◌, ℕ, List, Bool, Some, nat_le, length, drop}
+use Rattle.std.specs.Prelude.{get_or}
 use Rattle.std.specs.Str.{IsUtf8}
 use Rattle.json.specs.Lex.{lex, in_string}
 use Rattle.json.specs.Text.{content, plain, prepend, code_unit}
