@@ -57,7 +57,7 @@ conformance := conformance-cuts conformance-failing conformance-refusals conform
 bindings := conformance-library conformance-recipes bindings-rust bindings-go bindings-python
 
 .PHONY: deb help run build quick lib one_byte lines test test_library gate conformance $(bindings) $(conformance) \
-	links made_up contracts crates words wrong commands unproved $(runner_tests) test_qlog fuzz fuzz_library test_captures test_release test_page lint edits tried bench install dist clean
+	links made_up contracts crates words wrong commands unproved $(runner_tests) test_qlog fuzz fuzz_library test_captures test_release test_page pictures lint edits tried bench install dist clean
 
 help:
 	@echo 'make run       audits $(examples)'
@@ -71,6 +71,7 @@ help:
 	@echo 'make edits     tries the must-fail edits in edits/, which the gate does not try, in about an hour'
 	@echo 'make conformance runs the programs over conformance/ alone, once the gate has built them'
 	@echo 'make test_page runs the tests of qaudit-page and qaudit-matrix, those in a browser where one is there'
+	@echo 'make pictures  makes the pictures of docs, where a browser is there'
 	@echo 'make fuzz      converts 20,000 logs that nobody would write, in about five minutes'
 	@echo 'make fuzz_library  makes calls of the library for C by chance, for ten minutes'
 	@echo 'make lint      checks the types and the style of the programs in Python'
@@ -281,6 +282,10 @@ test_release:
 # page/stand_in.py stands in.
 test_page:
 	cd page && python3 -m unittest
+
+# The pictures of the pages in docs, in Chromium. A test of test_page fails if the page has changed since.
+pictures:
+	page/picture
 
 # No part of `test`, for it needs tools that need not be there. Both are told what to check by pyproject.toml; flake8,
 # which stands in for ruff where there is none, knows less and does not read it.
