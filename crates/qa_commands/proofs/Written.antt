@@ -118,9 +118,3 @@ pub checked_alone : (left old middle new : Option (List ℕ)) (several : Bool) (
     → several ≡ false → middle ≡ old → Audited left (File name) ended middle new → Checks several name ended old new
 checked_alone left old middle new several name ended alone same audited =
     inr (middle, rw alone same, audited_untold left middle new (File name) ended audited)
-
--- one of several
-pub checked_headed : (left old middle new : Option (List ℕ)) (several : Bool) (name : Bor (List ℕ)) (ended : Result Outcome Failure)
-    → several ≡ true → Appends old middle (heading name.now) → Audited left (File name) ended middle new → Checks several name ended old new
-checked_headed left old middle new several name ended more headed audited =
-    inr (middle, rw more headed, audited_untold left middle new (File name) ended audited)
