@@ -28,8 +28,12 @@ examples := examples/ten-packets.trace examples/eleven-packets.trace
 runner_tests := test_run test_trials test_allowed test_mutations test_rows test_departures test_simulate test_links test_made_up \
 	test_contracts test_crates test_edits test_unproved test_words test_commands test_lost_lines test_bindings test_recipes test_fuzz_library \
 	test_surroundings test_terminals
+# The tests of the pages in parts of about equal length, which can run side by side.
+tests_of_pages := test_page_in_browser test_page_opened test_page_without_browser
+in_browser := $(patsubst page/tests/%.py,tests.%,$(wildcard page/tests/test_browser_*.py))
+without_browser := $(patsubst page/tests/%.py,tests.%,$(filter-out page/tests/test_browser%,$(wildcard page/tests/test_*.py)))
 # The tests and checks that need no proof, the longest first.
-tests_in_python := test_page test_qlog test_captures $(runner_tests) test_release links made_up contracts crates words wrong commands
+tests_in_python := $(tests_of_pages) test_qlog test_captures $(runner_tests) test_release links made_up contracts crates words wrong commands
 
 # All programs in Python, by the places where their names are unlike each other.
 python := $(addprefix conformance/,allocations contracts crates cuts failing fuzz_library large library links made_up malicious memory mutations reasons recipes \
@@ -57,7 +61,7 @@ conformance := conformance-cuts conformance-failing conformance-refusals conform
 bindings := conformance-library conformance-recipes bindings-rust bindings-go bindings-python
 
 .PHONY: deb help run build quick lib one_byte lines test test_library gate conformance $(bindings) $(conformance) \
-	links made_up contracts crates words wrong commands unproved $(runner_tests) test_qlog fuzz fuzz_library test_captures test_release test_page pictures lint edits tried bench install dist clean
+	links made_up contracts crates words wrong commands unproved $(runner_tests) test_qlog fuzz fuzz_library test_captures test_release test_page $(tests_of_pages) pictures lint edits tried bench install dist clean
 
 help:
 	@echo 'make run       audits $(examples)'
@@ -282,6 +286,15 @@ test_release:
 # page/stand_in.py stands in.
 test_page:
 	cd page && python3 -m unittest
+
+test_page_in_browser:
+	cd page && python3 -m unittest tests.test_browser
+
+test_page_opened:
+	cd page && python3 -m unittest $(in_browser)
+
+test_page_without_browser:
+	cd page && python3 -m unittest $(without_browser)
 
 # The pictures of the pages in docs, in Chromium. A test of test_page fails if the page has changed since.
 pictures:
