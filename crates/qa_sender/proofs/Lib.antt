@@ -14,4 +14,5 @@ pub mod Causal
 pub mod Nameable
 pub mod Completing
 pub mod Sparing
+pub mod Unfound
 pub mod connection_lemmas

@@ -1,24 +1,24 @@
 -- What is asked of the packets held that are owed is what the definitions ask of those that are lost by the last event.
 use Rattle.std.proofs.Common.{◌≡◌, ◌∙◌, ◌≤◌, ℕ, List, [], ◌∷◌, ◌++◌, length, map, Bool, true, false, ◌&&◌, ◌||◌, Option, Some, None, refl, sym, ap, subst, arith, count_by, filter, reverse}
-use Rattle.std.proofs.lemmas.Bool.{and_left, and_parts, and_right, both_ways, or_parts, or_right}
+use Rattle.std.proofs.lemmas.Bool.{and_left, and_parts, and_right, both_ways, or_parts, or_right, true_from_ne_false}
 use Rattle.std.proofs.lemmas.List.{length-map, length-reverse, map_push}
 use Rattle.std.proofs.lemmas.List.Elements.{filter-append}
 use Rattle.std.proofs.lemmas.List.Sums.{length-filter}
 use Rattle.std.specs.List.{AllByRecursion, list_any}
-use Rattle.std.specs.Prelude.{if◌then◌else◌, nat_lt}
+use Rattle.std.specs.Prelude.{if◌then◌else◌, nat_lt, not}
 use Rattle.qa_base.specs.declared.event.Event.{Event}
 use Rattle.qa_base.specs.declared.event.Event.TheVariants.{Lost}
 use Rattle.qa_base.specs.declared.space.Space.{Space}
 use Rattle.qa_base.specs.machine.Breaches.{numbers}
-use Rattle.qa_base.specs.machine.Detection.{all_at, is_after, is_at, is_end as ends, is_found, is_left}
+use Rattle.qa_base.specs.machine.Detection.{all_at, is_after, is_at, is_end as ends, is_far_below, is_found, is_left, is_old, is_unsettled, may_be_spared}
 use Rattle.qa_base.specs.machine.Estimates.{sampled}
 use Rattle.qa_base.specs.machine.Loss.{declared, detection, is_free, is_nameable, is_owed as owes, is_persistent, owed}
-use Rattle.qa_base.specs.machine.Packets.{Packet, packets, is_acknowledged as covers, is_of, is_some_packet}
+use Rattle.qa_base.specs.machine.Packets.{Packet, packets, is_acknowledged as covers, is_of, is_some_packet, largest_acknowledged}
 use Rattle.qa_base.specs.machine.Reno.{latest_sent, sent_mark}
-use Rattle.qa_base.specs.machine.Rtt.{persistent_after}
+use Rattle.qa_base.specs.machine.Rtt.{Estimate, persistent_after}
 use Rattle.qa_base.specs.machine.Violations.{IsToleratedRun}
 use Rattle.qa_base.specs.values.Events.{declares_lost, is_named, is_space}
-use Rattle.qa_base.specs.values.Settings.{Settings, granularity}
+use Rattle.qa_base.specs.values.Settings.{Settings, granularity, is_may}
 use Rattle.qa_base.proofs.machine.Declared.{declared_is}
 use Rattle.qa_sender.proofs.connection_lemmas.Lists.{any_of_map, any_turned, each_value, filter_of_map, map_fused, map_turned}
 use Rattle.qa_sender.specs.connection.Steps.{last_sent}
@@ -344,3 +344,32 @@ none_left_at c h e none (p ∷ ps) =
 pub completed_detects : (c : Settings) (h : List Event) (e : Event) (d : Option (Space × ℕ)) → detection c h ≡ d → list_any (is_named_free c e h) (packets h) ≡ true → (at : Space × ℕ) × (d ≡ Some at)
 completed_detects c h e None none some = absurd (both_ways (list_any (is_named_free c e h) (packets h)) (none_left_at c h e none (packets h)) some)
 completed_detects c h e (Some at) is some = (at, refl)
+
+never_spared : (below old : Bool) → (below && false && not old) ≡ false
+never_spared true old = refl
+never_spared false old = refl
+
+-- where the header lets no packet be spared, no detection leaves one to the sender
+none_spared : (c : Settings) (r : Estimate) (h : List Event) (now : ℕ) (largest : Option ℕ) (p : Packet) → is_may c.options.loss_by_number ≡ false
+    → may_be_spared c r h now largest p ≡ false
+none_spared c r h now None p must = refl
+none_spared c r h now (Some m) p must =
+    ap (λ b. nat_lt p.number m && (b && is_far_below c h m p) && not (is_old c r now p)) must ∙ never_spared (nat_lt p.number m) (is_old c r now p)
+
+none_left_by : (c : Settings) (h : List Event) → is_may c.options.loss_by_number ≡ false → (p : Packet) (d : Option (Space × ℕ)) → is_at (is_left c (sampled c h) h) p d ≡ false
+none_left_by c h must p None = refl
+none_left_by c h must p (Some (s, now)) =
+    let spared = may_be_spared c (sampled c h) h now (largest_acknowledged h s) p in
+    let none = none_spared c (sampled c h) h now (largest_acknowledged h s) p must in
+    and_right (is_of s p) (p.in_flight && is_unsettled h p && spared) (and_right (p.in_flight && is_unsettled h p) spared none)
+
+none_named_free : (c : Settings) (h : List Event) (e : Event) → is_may c.options.loss_by_number ≡ false → (ps : List Packet) → list_any (is_named_free c e h) ps ≡ false
+none_named_free c h e must [] = refl
+none_named_free c h e must (p ∷ ps) =
+    let out : is_free c h p ≡ false = none_left_by c h must p (detection c h) in
+    rw out (none_named_free c h e must ps)
+
+-- so a Lost line completes a detection only where packets may be spared
+pub completed_spares : (c : Settings) (h : List Event) (e : Event) → list_any (is_named_free c e h) (packets h) ≡ true → is_may c.options.loss_by_number ≡ true
+completed_spares c h e some =
+    true_from_ne_false (is_may c.options.loss_by_number) (λ must. both_ways (list_any (is_named_free c e h) (packets h)) (none_named_free c h e must (packets h)) some)

@@ -21,7 +21,7 @@ use Rattle.qa_base.specs.values.Events.{discards, is_named, is_space}
 use Rattle.qa_base.specs.values.Settings.{Settings, is_may}
 use Rattle.qa_base.proofs.machine.Declared.{any_of_part}
 use Rattle.qa_sender.proofs.connection_lemmas.Lists.{all_same, all_turned, any_of_map, any_turned, each_value, filter_of_map, map_fused, map_turned}
-use Rattle.qa_sender.specs.connection.Detecting.{detected_in}
+use Rattle.qa_sender.specs.connection.Detecting.{Search, detected_in, search_of}
 use Rattle.qa_sender.specs.connection.Known.{IsOf}
 use Rattle.qa_sender.specs.declared.connection.connection.Connection.{Connection}
 use Rattle.qa_sender.specs.declared.connection.detection.Detection.{Detection}
@@ -54,9 +54,18 @@ end_if : (n far : ℕ) (may is_far : Bool) → nat_lt n far ≡ is_far → nat_l
 end_if n far true is_far is = is
 end_if n far false is_far is = grind (arith, nat_tests)
 
+-- above the numbers of what may be spared
+abbrev spared_end : Settings → ℕ → ℕ
+spared_end c far = if is_may c.options.loss_by_number then far else 0
+
+-- it is kept with the detection
+kept_end : (may : Bool) (d : Detection) → end_of (if may then Some d else None) ≡ (if may then d.far_end else 0)
+kept_end true d = refl
+kept_end false d = refl
+
 -- what may be spared lies below the end and is past no threshold
 spared_is : (c : Settings) (r : Estimate) (h : List Event) (s : Space) (now : ℕ) (largest : Option ℕ) (p : Packet) → s ≡ p.space
-    → may_be_spared c r h now largest p ≡ (nat_lt p.number (end_of c (far_end_below c h s largest)) && not (is_past_threshold c r h now largest p))
+    → may_be_spared c r h now largest p ≡ (nat_lt p.number (spared_end c (far_end_below c h s largest)) && not (is_past_threshold c r h now largest p))
 spared_is c r h s now None p same =
     let may = is_may c.options.loss_by_number in
     let never : nat_lt p.number 0 ≡ false = grind (arith, nat_tests) in
@@ -98,13 +107,13 @@ spared_there : (of flies a b : Bool) → (of ≡ true → a ≡ b) → (of && (f
 spared_there true flies a b same = ap (λ x. flies && x) (same refl)
 spared_there false flies a b same = refl
 
-told_by : (k : Connection) (c : Settings) (h : List Event) (d : Option (Space × ℕ)) → IsToleratedRun c h → IsOf k c h → detection c h ≡ d → (p : Packet)
-    → is_free_by (freed k (option_map (detected_in c h) d)) (sent_of c h p) ≡ is_at (is_left c (sampled c h) h) p d
-told_by k c h None run of at p = let none : nat_lt p.number 0 ≡ false = grind (arith, nat_tests) in and_right (is_flying Initial (sent_of c h p)) (nat_lt p.number 0) none
-told_by k c h (Some (s, now)) run of at p =
-    let end = end_of c (far_end c h s) in
+told_by : (c : Settings) (h : List Event) (d : Option (Space × ℕ)) → IsToleratedRun c h → detection c h ≡ d → (p : Packet)
+    → is_free_by (freed (option_map (search_of c) (option_map (detected_in c h) d))) (sent_of c h p) ≡ is_at (is_left c (sampled c h) h) p d
+told_by c h None run at p = let none : nat_lt p.number 0 ≡ false = grind (arith, nat_tests) in and_right (is_flying Initial (sent_of c h p)) (nat_lt p.number 0) none
+told_by c h (Some (s, now)) run at p =
+    let end = spared_end c (far_end c h s) in
     let late = is_past_threshold c (sampled c h) h now (largest_acknowledged h s) p in
-    let end_is : end_of k.header (far_end c h s) ≡ end = ap (λ (x : Settings). end_of x (far_end c h s)) of.parts.header in
+    let end_is : end_of (if is_may c.options.loss_by_number then Some (detected_in c h (s, now)) else None) ≡ end = kept_end (is_may c.options.loss_by_number) (detected_in c h (s, now)) in
     let owes_is : owes c h p ≡ (is_of s p && is_found c (sampled c h) h now s p) = ap (is_at (is_found c (sampled c h) h) p) at in
     let opened : is_open (fate c h p) ≡ (is_unsettled h p && not (is_of s p && is_found c (sampled c h) h now s p) && not (is_discarded h p.space)) =
     is_open_told c h p ∙ ap (λ b. is_unsettled h p && not b && not (is_discarded h p.space)) owes_is in
@@ -118,21 +127,21 @@ told_by k c h (Some (s, now)) run of at p =
 -- in a tolerated run a packet is free by what is kept where it is free after the history
 pub free_told : (k : Connection) (c : Settings) (h : List Event) → IsToleratedRun c h → IsOf k c h → (p : Packet) → is_free_by (free_of k) (sent_of c h p) ≡ is_free c h p
 free_told k c h run of p =
-    ap (λ (d : Option Detection). is_free_by (freed k d) (sent_of c h p)) of.detection ∙ told_by k c h (detection c h) run of refl p
+    ap (λ (d : Option Search). is_free_by (freed d) (sent_of c h p)) of.search ∙ told_by c h (detection c h) run refl p
 
 of_either : (of a b : Bool) → ((of && a) || (of && b)) ≡ true → of ≡ true
 of_either true a b is = refl
 of_either false a b is = cc
 
-space_by : (k : Connection) (c : Settings) (h : List Event) (d : Option (Space × ℕ)) → detection c h ≡ d → (p : Packet) → (is_at (is_found c (sampled c h) h) p d || is_at (is_left c (sampled c h) h) p d) ≡ true
-    → is_space (freed k (option_map (detected_in c h) d)).space p.space ≡ true
-space_by k c h None at p is = cc
-space_by k c h (Some (s, now)) at p is = of_either (is_of s p) (is_found c (sampled c h) h now s p) (is_left c (sampled c h) h now s p) is
+space_by : (c : Settings) (h : List Event) (d : Option (Space × ℕ)) → detection c h ≡ d → (p : Packet) → (is_at (is_found c (sampled c h) h) p d || is_at (is_left c (sampled c h) h) p d) ≡ true
+    → is_space (freed (option_map (search_of c) (option_map (detected_in c h) d))).space p.space ≡ true
+space_by c h None at p is = cc
+space_by c h (Some (s, now)) at p is = of_either (is_of s p) (is_found c (sampled c h) h now s p) (is_left c (sampled c h) h now s p) is
 
 -- what may be named is of the space of what is free
 pub nameable_there : (k : Connection) (c : Settings) (h : List Event) → IsOf k c h → (p : Packet) → is_nameable c h p ≡ true → is_space (free_of k).space p.space ≡ true
 nameable_there k c h of p is =
-    ap (λ (d : Option Detection). is_space (freed k d).space p.space) of.detection ∙ space_by k c h (detection c h) refl p is
+    ap (λ (d : Option Search). is_space (freed d).space p.space) of.search ∙ space_by c h (detection c h) refl p is
 
 pub owed_there_by : (k : Connection) (c : Settings) (h : List Event) → IsOf k c h → (p : Packet) → owes c h p ≡ true → is_space (free_of k).space p.space ≡ true
 owed_there_by k c h of p is = nameable_there k c h of p (ap (λ b. b || is_free c h p) is)

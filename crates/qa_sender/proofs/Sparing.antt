@@ -13,7 +13,7 @@ use Rattle.qa_base.specs.machine.Violations.{IsToleratedRun}
 use Rattle.qa_base.specs.values.Settings.{Settings}
 use Rattle.qa_ledger.specs.causes.Causes.{searched}
 use Rattle.qa_sender.proofs.connection_lemmas.Lists.{each_value, filter_of_map, map_fused, map_turned}
-use Rattle.qa_sender.specs.connection.Detecting.{detected_in}
+use Rattle.qa_sender.specs.connection.Detecting.{Search, detected_in, search_by, search_of}
 use Rattle.qa_sender.specs.connection.Known.{IsOf}
 use Rattle.qa_sender.specs.declared.connection.connection.Connection.{Connection}
 use Rattle.qa_sender.specs.declared.connection.detection.Detection.{Detection}
@@ -55,10 +55,14 @@ free_numbers_stand k c h run of held stands =
 
 -- ---- their space
 
-space_told : (c : Settings) (h : List Event) (d : Option (Space × ℕ)) → option_map (λ (kept : Detection). kept.space) (option_map (detected_in c h) d) ≡ option_map (λ at. at.0) d
+space_told : (c : Settings) (h : List Event) (d : Option (Space × ℕ)) → option_map (λ (kept : Search). kept.space) (option_map (search_of c) (option_map (detected_in c h) d)) ≡ option_map (λ at. at.0) d
 space_told c h None = refl
 space_told c h (Some d) = refl
 
+space_by : (searched : Option Space) (d : Option Detection) → searched ≡ option_map (λ (kept : Search). kept.space) (search_by searched d)
+space_by None d = refl
+space_by (Some space) d = refl
+
 -- the space in which the last event looked for losses is kept
-pub searched_is_held : (k : Connection) (c : Settings) (h : List Event) → IsOf k c h → option_map (λ (kept : Detection). kept.space) k.detection ≡ searched c h
-searched_is_held k c h of = ap (option_map (λ (kept : Detection). kept.space)) of.detection ∙ space_told c h (detection c h)
+pub searched_is_held : (k : Connection) (c : Settings) (h : List Event) → IsOf k c h → k.searched ≡ searched c h
+searched_is_held k c h of = space_by k.searched k.detection ∙ (ap (option_map (λ (kept : Search). kept.space)) of.search ∙ space_told c h (detection c h))

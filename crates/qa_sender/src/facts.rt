@@ -22,10 +22,7 @@ impl Facts for Running {
     }
 
     fn searched(&self) -> Option<Space> {
-        match self.machine.connection.detection {
-            None => None,
-            Some(detection) => Some(detection.space),
-        }
+        self.machine.connection.searched
     }
 
     fn owed_space(&self) -> Option<Space> {

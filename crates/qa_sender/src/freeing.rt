@@ -2,8 +2,8 @@
 ghost use Rattle.std.specs.Prelude.{◌≡◌};
 ghost use Rattle.qa_sender.specs.Freeing.{end_of, free_of};
 
-use crate::connection::Connection;
-use qa_base::{Header, Space};
+use crate::connection::{Connection, Detection};
+use qa_base::Space;
 use qa_sent_packets::FreePackets;
 
 /// What it may name: where the last event looked for losses, the packets of its space that lie
@@ -12,26 +12,25 @@ use qa_sent_packets::FreePackets;
 pub(crate) fn free_packets(connection: &Connection) -> FreePackets
     ensures { result ≡ free_of connection.now }
 {
-    match connection.detection {
+    match connection.searched {
         None => FreePackets {
             space: Space::Initial,
             end: 0,
         },
-        Some(detection) => FreePackets {
-            space: detection.space,
-            end: end_of_free(&connection.header, detection.far_end),
+        Some(space) => FreePackets {
+            space,
+            end: end_of_free(&connection.detection),
         },
     }
 }
 
 /// Above the numbers that lie below the largest acknowledged one by the packet threshold; 0 where
 /// such packets must be lost.
-fn end_of_free(header: &Header, far_end: u64) -> u64
-    ensures { result ≡ end_of header.now far_end }
+fn end_of_free(detection: &Option<Detection>) -> u64
+    ensures { result ≡ end_of detection.now }
 {
-    if header.options().loss_by_number.is_may() {
-        far_end
-    } else {
-        0
+    match detection {
+        None => 0,
+        Some(detection) => detection.far_end,
     }
 }

@@ -1,6 +1,6 @@
 //! What each kind of event does to the state of a sender.
 ghost use Rattle.std.specs.Prelude.{◌≡◌, ◌≤◌, ◌<◌, ◌+◌, [], ◌∷◌, ℕ, List, length, filter, map};
-ghost use Rattle.std.specs.Prelude.{true, false, Some, IfOk, OnOk, OnErr, min};
+ghost use Rattle.std.specs.Prelude.{true, false, Some, IfOk, OnOk, OnErr, fold, min};
 ghost use Rattle.std.specs.List.{AllByRecursion};
 ghost use Rattle.qa_base.specs.declared.event.Event.{Event as AnEvent};
 ghost use Rattle.qa_base.specs.declared.event.Event.TheVariants as events;
@@ -15,9 +15,11 @@ ghost use Rattle.qa_base.specs.values.Limits.{max_lines, max_packet_size};
 ghost use Rattle.qa_base.specs.values.Settings.{AreInRange, Settings};
 ghost use Rattle.qa_sender.specs.connection.Changes.{completed, with_persistent_congestion};
 ghost use Rattle.qa_sender.specs.connection.Changes.{with_congestion_event};
-ghost use Rattle.qa_sender.specs.connection.Detecting.{detection_after};
+ghost use Rattle.qa_sender.specs.connection.Detecting.{kept_of, search_after, search_by, search_in};
+ghost use Rattle.qa_sender.specs.connection.Detecting.{whole_of};
 ghost use Rattle.qa_sender.specs.connection.Known.{HasParts, IsMeasured, AreLosses};
 ghost use Rattle.qa_sender.specs.connection.Known.{IsProperToleratedRun};
+ghost use Rattle.qa_sender.specs.connection.Reporting.{with_bytes};
 ghost use Rattle.qa_sender.specs.connection.Steps.{last_sent};
 ghost use Rattle.qa_sender.specs.declared.connection.detection.Detection.{Detection as ADetection};
 ghost use Rattle.qa_packet_numbers.specs.Sent.{AreSent};
@@ -37,7 +39,7 @@ ghost use Rattle.qa_sent_packets.specs.Steps.{covered_by};
 ghost use Rattle.qa_sent_packets.specs.declared.fate.Fate.TheVariants.{Open};
 
 use crate::answers::open_in;
-use crate::connection::{Connection, Detection, Losses};
+use crate::connection::{Connection, Losses};
 use crate::far::far_end;
 use crate::freeing::free_packets;
 use crate::watch::TimerWatch;
@@ -95,15 +97,12 @@ impl Machine {
         }
         self.connection
             .sample(&acknowledged, largest, ack.delay, time);
-        let far_end = far_end(&self.connection, &self.numbers, space);
-        let detection = self
-            .connection
-            .detected(space, time.get(), mark, &acknowledged, far_end);
-        self.find_losses(space, time.get(), far_end, mark);
+        self.keep_detection(space, time.get(), mark, &acknowledged);
+        self.find_losses(space, time.get(), mark);
         self.connection.grow(&acknowledged, ack.app_limited);
         self.packets.take_back(acknowledged);
         self.connection.restart(time);
-        self.finish(time, Some(detection));
+        self.finish(time, Some(space));
         Ok(())
     }
 
@@ -141,11 +140,10 @@ impl Machine {
         let open = open_in(&self.packets, space);
         let due = self.connection.loss_time(space, open.oldest);
         let looked = looks_at(early, time, due);
-        let far_end = far_end(&self.connection, &self.numbers, space);
-        let detection = self.connection.detected(space, looked, mark, &[], far_end);
+        self.keep_detection(space, looked, mark, &[]);
         self.connection.timer.last_set = Some(time);
-        self.find_losses(space, looked, far_end, mark);
-        self.finish(time, Some(detection));
+        self.find_losses(space, looked, mark);
+        self.finish(time, Some(space));
     }
 
     /// A probe timeout of a space (A.9).
@@ -175,7 +173,8 @@ impl Machine {
     /// by that is taken in: all that is held as owed now, by the estimate by which it looked.
     fn complete(&mut self, completes: bool)
         ensures connection { (c : Settings) (h : List AnEvent) (d : ADetection)
-            → completes ≡ true → self.old.connection.detection ≡ Some d → IsToleratedRun c h
+            → completes ≡ true → whole_of (search_in self.old.connection) ≡ Some d
+            → IsToleratedRun c h
             → self.old.connection.header ≡ c → d.rtt ≡ sampled c h
             → HoldsLosses self.old.packets c h
             → self.new.connection
@@ -186,12 +185,13 @@ impl Machine {
         ensures numbers { self.new.numbers ≡ self.old.numbers }
         ensures watch { self.new.watch ≡ self.old.watch }
         ensures range { (d : ADetection) → completes ≡ true
-            → self.old.connection.detection ≡ Some d → AreInRange self.old.connection.header }
+            → whole_of (search_in self.old.connection) ≡ Some d
+            → AreInRange self.old.connection.header }
     {
         if !completes {
             return;
         }
-        let Some(detection) = self.connection.detection else {
+        let Some(detection) = self.connection.last_detection() else {
             return;
         };
         let losses = losses(&self.packets, &self.connection.header, &detection.rtt);
@@ -297,17 +297,81 @@ impl Machine {
         }
     }
 
+    /// Keeps what a Lost line asks that completes the detection in a space, as of `looked`, by an
+    /// event of this mark that newly acknowledges these packets. The estimate has the event's
+    /// sample, and losses are not taken in yet. Where the header lets no packet be spared, no Lost
+    /// line completes it.
+    #[inline(always)]
+    fn keep_detection(
+        &mut self,
+        space: Space,
+        looked: u64,
+        mark: Ticks,
+        acknowledged: &[SentPacket],
+    )
+        ensures detection { (c : Settings) (h : List AnEvent) → IsToleratedRun c h
+            → IsMeasured self.old.connection c h → AreSent self.old.numbers h
+            → self.new.connection.detection ≡ kept_of c (record {
+              space = space;
+              looked = looked;
+              mark = mark;
+              rtt = self.old.connection.rtt;
+              before = self.old.connection.reno;
+              acknowledged = fold with_bytes 0 acknowledged.now;
+              far_end = far_end_of c h space;
+            }) }
+        ensures connection { self.new.connection
+            ≡ record self.old.connection { detection = self.new.connection.detection } }
+        ensures packets { self.new.packets ≡ self.old.packets }
+        ensures numbers { self.new.numbers ≡ self.old.numbers }
+        ensures watch { self.new.watch ≡ self.old.watch }
+    {
+        if !self.connection.header.options().loss_by_number.is_may() {
+            self.connection.detection = None;
+            return;
+        }
+        self.keep_whole(space, looked, mark, acknowledged);
+    }
+
+    /// Keeps all of a detection, as `keep_detection` says. Few headers let packets be spared.
+    #[cold]
+    #[inline(never)]
+    fn keep_whole(&mut self, space: Space, looked: u64, mark: Ticks, acknowledged: &[SentPacket])
+        ensures detection { (c : Settings) (h : List AnEvent) → IsToleratedRun c h
+            → IsMeasured self.old.connection c h → AreSent self.old.numbers h
+            → self.new.connection.detection ≡ Some (record {
+              space = space;
+              looked = looked;
+              mark = mark;
+              rtt = self.old.connection.rtt;
+              before = self.old.connection.reno;
+              acknowledged = fold with_bytes 0 acknowledged.now;
+              far_end = far_end_of c h space;
+            }) }
+        ensures connection { self.new.connection
+            ≡ record self.old.connection { detection = self.new.connection.detection } }
+        ensures packets { self.new.packets ≡ self.old.packets }
+        ensures numbers { self.new.numbers ≡ self.old.numbers }
+        ensures watch { self.new.watch ≡ self.old.watch }
+    {
+        let far_end = far_end(&self.connection, &self.numbers, space);
+        let detection = self
+            .connection
+            .detected(space, looked, mark, acknowledged, far_end);
+        self.connection.detection = Some(detection);
+    }
+
     /// Looks for losses in a space as of a time, and takes in what they mean for the window, by an
-    /// event of this mark (A.10 and B.8). The numbers that lie far below the largest acknowledged
-    /// one are those below `far_end`. Nothing may be owed before.
-    fn find_losses(&mut self, space: Space, looked: u64, far_end: u64, mark: Ticks)
+    /// event of this mark (A.10 and B.8). Nothing may be owed before.
+    #[inline(always)]
+    fn find_losses(&mut self, space: Space, looked: u64, mark: Ticks)
         requires { NoneOwed self.old.packets.packets }
-        ensures packets { (c : Settings) (h : List AnEvent) → IsMeasured self.old.connection c h
-            → far_end ≡ far_end_of c h space
+        ensures packets { (c : Settings) (h : List AnEvent) → IsToleratedRun c h
+            → IsMeasured self.old.connection c h → AreSent self.old.numbers h
             → StandsOnceFound self.old.packets c h space looked → StandsFor self.new.packets c h }
         ensures connection { (c : Settings) (h : List AnEvent) → IsToleratedRun c h
             → LosesWhatIsOwed c h
-            → IsMeasured self.old.connection c h → far_end ≡ far_end_of c h space
+            → IsMeasured self.old.connection c h → AreSent self.old.numbers h
             → StandsOnceFound self.old.packets c h space looked
             → self.new.connection
             ≡ with_persistent_congestion (loss.is_persistent c h)
@@ -316,26 +380,62 @@ impl Machine {
         ensures numbers { self.new.numbers ≡ self.old.numbers }
         ensures watch { self.new.watch ≡ self.old.watch }
     {
-        let thresholds = thresholds(&self.connection, space, looked, far_end);
-        self.packets.detect(space, &thresholds);
+        self.detect(space, looked);
         let losses = losses(&self.packets, &self.connection.header, &self.connection.rtt);
         self.connection.lose(losses, mark);
     }
 
-    /// Ends an event that happened now and looked for losses or did not: it is counted, packets
-    /// that are of no more use are dropped, and the timer is set (A.8).
+    /// Looks for losses in a space as of a time: what it finds is owed from now on. Mostly no
+    /// packet in flight lies below the largest acknowledged number, and so none is lost.
+    #[inline(always)]
+    fn detect(&mut self, space: Space, looked: u64)
+        requires { NoneOwed self.old.packets.packets }
+        ensures packets { (c : Settings) (h : List AnEvent) → IsToleratedRun c h
+            → IsMeasured self.old.connection c h → AreSent self.old.numbers h
+            → StandsOnceFound self.old.packets c h space looked → StandsFor self.new.packets c h }
+        ensures connection { self.new.connection ≡ self.old.connection }
+        ensures numbers { self.new.numbers ≡ self.old.numbers }
+        ensures watch { self.new.watch ≡ self.old.watch }
+    {
+        let end = self.connection.spaces.of(space).end_below_largest();
+        if !self.packets.flies_below(space, end) {
+            return;
+        }
+        self.detect_below(space, looked);
+    }
+
+    /// Looks for losses as `detect` does, also where some packet lies below the largest
+    /// acknowledged number.
+    #[inline(never)]
+    fn detect_below(&mut self, space: Space, looked: u64)
+        requires { NoneOwed self.old.packets.packets }
+        ensures packets { (c : Settings) (h : List AnEvent) → IsToleratedRun c h
+            → IsMeasured self.old.connection c h → AreSent self.old.numbers h
+            → StandsOnceFound self.old.packets c h space looked → StandsFor self.new.packets c h }
+        ensures connection { self.new.connection ≡ self.old.connection }
+        ensures numbers { self.new.numbers ≡ self.old.numbers }
+        ensures watch { self.new.watch ≡ self.old.watch }
+    {
+        let far_end = far_end(&self.connection, &self.numbers, space);
+        let thresholds = thresholds(&self.connection, space, looked, far_end);
+        self.packets.detect(space, &thresholds);
+    }
+
+    /// Ends an event that happened now and looked for losses in a space or did not: it is counted,
+    /// packets that are of no more use are dropped, and the timer is set (A.8).
     ///
     /// It is a part of each kind of event, since only two of them look for losses.
     #[inline(always)]
-    fn finish(&mut self, now: Ticks, detection: Option<Detection>)
+    fn finish(&mut self, now: Ticks, searched: Option<Space>)
         ensures { (c : Settings) (e : AnEvent) (h : List AnEvent) → now ≡ time_of e
-            → detection ≡ detection_after c (e ∷ h) → IsProperToleratedRun c (e ∷ h)
+            → search_by searched self.old.connection.detection ≡ search_after c (e ∷ h)
+            → IsProperToleratedRun c (e ∷ h)
             → self.old.connection.events ≡ length h
             → HasParts self.old.connection c (e ∷ h) → StandsFor self.old.packets c (e ∷ h)
             → AreSent self.old.numbers (e ∷ h) → IsWatched self.old.watch c h
             → Stands self.new c (e ∷ h) }
     {
-        self.connection.count(now, detection);
+        self.connection.count(now, searched);
         trim(&mut self.packets);
         self.watch.follow(&self.connection, &self.packets, now);
     }

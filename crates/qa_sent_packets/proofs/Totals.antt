@@ -1,14 +1,17 @@
 -- What the parts that are kept for the spaces answer of all packets.
 use Rattle.std.proofs.Common.{◌≡◌, ◌∙◌, ℕ, zero, suc, ◌+◌, ◌*◌, ◌≤◌, ◌<◌, Bool, true, false, cond, ◌&&◌, ◌||◌, List, [], ◌∷◌, length, get_or, take, drop, count_by, sum_by, refl, sym, ap, arith, inl, inr, Some, None}
-use Rattle.std.specs.Prelude.{if◌then◌else◌, find, nat_lt}
+use Rattle.std.specs.Prelude.{◌==◌, if◌then◌else◌, find, is_none, nat_lt, not}
 use Rattle.std.specs.List.{AllByRecursion, list_any}
+use Rattle.std.proofs.lemmas.Bool.{both_ways}
 use Rattle.std.proofs.lemmas.Bool.Decides.{nat_tests}
 use Rattle.std.proofs.lemmas.List.Sums.{sum_by-cons}
 use Rattle.qa_base.specs.declared.space.Space.{Space}
 use Rattle.qa_base.specs.declared.space.Space.TheVariants.{Initial, Handshake, App}
 use Rattle.qa_base.specs.values.Events.{is_space}
 use Rattle.qa_base.specs.values.Limits.{max_packet_size}
-use Rattle.qa_sent_packets.specs.Fates.{flight_bytes, flight_bytes_in, is_flying, is_open, is_unacknowledged}
+use Rattle.qa_sent_packets.specs.Fates.{flight_bytes, flight_bytes_in, is_awaiting, is_flying, is_open, is_unacknowledged, is_waiting}
+use Rattle.qa_sent_packets.specs.declared.fate.Fate.{Fate}
+use Rattle.qa_sent_packets.specs.declared.fate.Fate.TheVariants.{Open}
 use Rattle.qa_sent_packets.specs.Held.{FirstFlies, IsSound, NoneFlies, unacknowledged_in}
 use Rattle.qa_base.specs.declared.per_space.PerSpace.{PerSpace}
 use Rattle.qa_sent_packets.specs.declared.space_packets.SpacePackets.{SpacePackets}
@@ -141,3 +144,39 @@ entries_kept d ps losses by_space sound =
     let h = ap length sound.handshake.indexed.entries in
     let a = ap length sound.app.indexed.entries in
     omega (arith, fewer, i, h, a)
+
+-- ---- a space in which none waits
+
+opened_waits : (f : Fate) → is_open f ≡ true → is_unacknowledged f ≡ true
+opened_waits Open is = refl
+opened_waits _ is = cc
+
+shut_if : (here asks opened waits : Bool) → (opened ≡ true → waits ≡ true) → (here && waits) ≡ false → (here && (asks && opened)) ≡ false
+shut_if false asks opened waits goes none = refl
+shut_if true false opened waits goes none = refl
+shut_if true true false waits goes none = refl
+shut_if true true true waits goes none = absurd (both_ways waits none (goes refl))
+
+none_here : (waits : Bool) (e : ℕ × ℕ) (es : List (ℕ × ℕ)) → (if waits then e ∷ es else es) ≡ [] → (waits ≡ false) × (es ≡ [])
+none_here true e es none = cc
+none_here false e es none = (refl, none)
+
+-- none is open there: none is waited for, and none is in flight
+pub none_waits : (s : Space) (d : ℕ) (ps : List SentPacket) → unacknowledged_in s d ps ≡ [] → (list_any (is_awaiting s) ps ≡ false) × (find (is_flying s) ps ≡ None)
+none_waits s d [] none = (refl, refl)
+none_waits s d (p ∷ ps) none =
+    let here = none_here (is_waiting s p) (p.number, d) (unacknowledged_in s (suc d) ps) none in
+    let rest = none_waits s (suc d) ps here.1 in
+    let shut : (asks : Bool) → (is_space s p.space && (asks && is_open p.fate)) ≡ false = λ asks. shut_if (is_space s p.space) asks (is_open p.fate) (is_unacknowledged p.fate) (opened_waits p.fate) here.0 in (
+      ap (λ b. b || list_any (is_awaiting s) ps) (shut p.eliciting) ∙ rest.0,
+      ap (λ b. if b then Some p else find (is_flying s) ps) (shut p.in_flight) ∙ rest.1,
+    )
+
+pub idle_is : (s : Space) (ps : List SentPacket) → list_any (is_awaiting s) ps ≡ false → find (is_flying s) ps ≡ None → true ≡ (not (list_any (is_awaiting s) ps) && is_none (find (is_flying s) ps))
+idle_is s ps calm none = rw (calm, none) refl
+
+pub nothing : (es : List (ℕ × ℕ)) → (length es == 0) ≡ true → es ≡ []
+nothing [] is = refl
+nothing (e ∷ es) is =
+    let never : (suc (length es) == 0) ≡ false = grind (arith, nat_tests) in
+    absurd (both_ways (length (e ∷ es) == 0) never is)

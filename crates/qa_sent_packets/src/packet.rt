@@ -2,20 +2,21 @@
 use crate::fate::Fate;
 use qa_base::{PacketNumber, Space, Ticks};
 
-/// A packet that was sent, and what became of it (RFC 9002, A.1.1).
+/// A packet that was sent, and what became of it (RFC 9002, A.1.1). Its fields take 32 bytes in
+/// this order.
 #[derive(Clone, Copy)]
 pub struct SentPacket {
     /// When it was sent.
     pub time: Ticks,
-    /// How many events came before it, counted as times are, so that recovery can be told by
-    /// either (section 7.3.2).
-    pub place: Ticks,
-    /// Its packet number space.
-    pub space: Space,
-    /// Its number in that space.
+    /// Its number in its space.
     pub number: PacketNumber,
     /// Its size in bytes, 1 to 65527.
     pub size: u64,
+    /// How many events came before it, so that recovery can be told by their order (section
+    /// 7.3.2).
+    pub place: u32,
+    /// Its packet number space.
+    pub space: Space,
     /// Whether it is ack-eliciting.
     pub eliciting: bool,
     /// Whether it counts toward the bytes in flight.
@@ -36,7 +37,11 @@ impl SentPacket {
     pub fn mark(&self, by_order: bool) -> Ticks
         ensures { result ≡ mark_of by_order self.now }
     {
-        if by_order { self.place } else { self.time }
+        if by_order {
+            Ticks::of(u64::from(self.place))
+        } else {
+            self.time
+        }
     }
 
     /// Whether it is open.

@@ -22,7 +22,7 @@ ghost use Rattle.std.specs.List.{AllByRecursion, list_any};
 ghost use Rattle.std.specs.Vec.{vec_capacity};
 ghost use Rattle.std.specs.Prelude.{◌≡◌, [], ◌≤◌, ◌<◌, ◌+◌, ◌∷◌, ◌++◌, length, OnErr, OnOk, filter};
 ghost use Rattle.std.specs.Prelude.{IfOk, false, Some, map, ◌&&◌, ◌-◌, true, count_by, drop, None};
-ghost use Rattle.std.specs.Prelude.{◌*◌, ◌^◌, find, is_none, not, reverse, sum_by};
+ghost use Rattle.std.specs.Prelude.{◌*◌, ◌^◌, find, is_none, nat_lt, not, reverse, sum_by};
 ghost use Rattle.std.specs.Option.{option_copied};
 
 use crate::declaring::declare_in;
@@ -304,15 +304,25 @@ impl SentPackets {
         are_apart_in(&self.queue.packets, self.owed_part(), limit, first)
     }
 
-    /// Whether a packet is free. Takes constant time: the first in flight is, if any is.
+    /// Whether a packet is free. Takes constant time.
     pub fn has_free(&self, free: FreePackets) -> bool
         ensures { result ≡ list_any (is_free_by free) self.now.packets }
     {
+        self.flies_below(free.space, free.end)
+    }
+
+    /// Whether a packet of the space is open and in flight that has a number below this one. Takes
+    /// constant time: the first in flight has, if any has.
+    #[inline(always)]
+    pub fn flies_below(&self, space: Space, end: u64) -> bool
+        ensures { result
+            ≡ list_any (λ p. is_flying space p && nat_lt p.number end) self.now.packets }
+    {
         // What is kept stands in the order of sending.
         let _kept = self.queue.packets.len();
-        match self.first_flying(free.space) {
+        match self.first_flying_ref(space) {
             None => false,
-            Some(packet) => packet.number.get() < free.end,
+            Some(packet) => packet.number.get() < end,
         }
     }
 
@@ -501,6 +511,10 @@ impl SentPackets {
         ensures { result ≡ (not (list_any (is_awaiting space) self.now.packets)
             && is_none (find (is_flying space) self.now.packets)) }
     {
+        // A packet that is open would still be acknowledged.
+        if self.by_space.of(space).unacknowledged.is_empty() {
+            return true;
+        }
         !self.awaits(space) && self.first_flying_ref(space).is_none()
     }
 

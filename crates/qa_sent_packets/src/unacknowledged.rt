@@ -1,6 +1,7 @@
 //! The packets of a space that an acknowledgment would still cover, by their numbers.
-ghost use Rattle.std.specs.Prelude.{◌≡◌, ◌≤◌, ◌<◌, ◌++◌, ◌∷◌, [], ℕ, false, true, length, remove};
-ghost use Rattle.std.specs.Prelude.{slice_index_or, take, IfSome, MatchOption, OnErr, OnOk};
+ghost use Rattle.std.specs.Prelude.{◌≡◌, ◌≤◌, ◌<◌, ◌==◌, ◌++◌, ◌∷◌, [], ℕ, false, true, length};
+ghost use Rattle.std.specs.Prelude.{remove, slice_index_or, take, IfSome, MatchOption, OnErr};
+ghost use Rattle.std.specs.Prelude.{OnOk};
 ghost use Rattle.std.specs.List.{AllByRecursion};
 ghost use Rattle.std.specs.Map.{remove_entry};
 ghost use Rattle.std.specs.BTreeMap.{is_at};
@@ -60,6 +61,14 @@ impl Unacknowledged {
         self.gaps.clear();
         self.end = 0;
         self.recent.clear();
+    }
+
+    /// Whether there are none.
+    #[inline(always)]
+    pub(crate) fn is_empty(&self) -> bool
+        ensures { result ≡ (length self.now.entries == 0) }
+    {
+        self.recent.is_empty() && self.gaps.is_empty()
     }
 
     /// How many they are.

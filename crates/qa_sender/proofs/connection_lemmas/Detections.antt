@@ -15,11 +15,11 @@ use Rattle.qa_base.specs.machine.Rtt.{Estimate}
 use Rattle.qa_base.specs.machine.Widths.{Fits}
 use Rattle.qa_base.specs.values.Events.{time_of}
 use Rattle.qa_base.specs.values.Limits.{max_lines}
-use Rattle.qa_base.specs.values.Settings.{Settings, early}
+use Rattle.qa_base.specs.values.Settings.{Settings, early, is_may}
 use Rattle.qa_base.proofs.machine.Quiet.{none_passes}
 use Rattle.qa_sender.specs.connection.Changes.{marked}
 use Rattle.qa_sender.specs.declared.connection.connection.Connection.{Connection}
-use Rattle.qa_sender.specs.connection.Detecting.{detected_in, detection_after}
+use Rattle.qa_sender.specs.connection.Detecting.{detected_in, detection_after, kept_of}
 use Rattle.qa_sender.specs.connection.Known.{acknowledged_by}
 use Rattle.qa_sender.specs.connection.Reporting.{with_bytes}
 use Rattle.qa_sender.specs.Thresholds.{far_end}
@@ -74,3 +74,14 @@ pub timed_detected : (c : Settings) (h : List Event) (time : ℕ) (space : Space
 timed_detected c h time space looked mark rtt before far is_mark is_looked is_rtt is_before is_far =
     let e = Timer time Loss space in
     rw (is_mark, is_looked, is_rtt, is_before, is_far) (ap (of space (looks_at (early c) time (old_at c (sampled c (e ∷ h)) h space)) (event_mark c (e ∷ h)) (sampled c (e ∷ h)) (reno c h) (far_end c (e ∷ h) space)) (sym (no_bytes e h (none_passes (packets h)))))
+
+-- up to the same number
+pub detected_to : (space : Space) (looked mark : ℕ) (rtt : Estimate) (before : Control) (far end bytes : ℕ) → far ≡ end → of space looked mark rtt before far bytes ≡ of space looked mark rtt before end bytes
+detected_to space looked mark rtt before far end bytes is = ap (λ n. of space looked mark rtt before n bytes) is
+
+-- all of it is kept where packets may be spared, by the header
+pub kept_none : (c header : Settings) (d : Detection) → header ≡ c → is_may header.options.loss_by_number ≡ false → None ≡ kept_of c d
+kept_none c header d is must = sym (ap (λ b. if◌then◌else◌ {A = Option Detection} b (Some d) None) (ap (λ (x : Settings). is_may x.options.loss_by_number) (sym is) ∙ must))
+
+pub kept_some : (c header : Settings) (d : Detection) → header ≡ c → is_may header.options.loss_by_number ≡ true → Some d ≡ kept_of c d
+kept_some c header d is may = sym (ap (λ b. if◌then◌else◌ {A = Option Detection} b (Some d) None) (ap (λ (x : Settings). is_may x.options.loss_by_number) (sym is) ∙ may))

@@ -27,7 +27,7 @@ use Rattle.qa_sender.specs.Following.{as_sent}
 use Rattle.qa_sender.specs.connection.Changes.{acknowledged, completed, counted, discarded, grown, probing, reported, restarted, sent, with_persistent_congestion, with_congestion_event, with_sample}
 use Rattle.qa_sender.specs.connection.Handshaking.{acknowledged_in, discarded_in, handshake_after, sent_in}
 use Rattle.qa_sender.specs.connection.Known.{HasParts, IsMeasured, IsOf, IsProperToleratedRun, acknowledged_by}
-use Rattle.qa_sender.specs.connection.Detecting.{detection_after}
+use Rattle.qa_sender.specs.connection.Detecting.{search_after, search_by}
 use Rattle.qa_sender.specs.connection.Reporting.{acknowledging, collapsed_with, reported_after, reporting}
 use Rattle.qa_sender.specs.connection.Spaces.{space_after}
 use Rattle.qa_sender.specs.connection.Spending.{on_congestion_event, spent}
@@ -56,15 +56,32 @@ use Rattle.qa_base.specs.values.PerSpace.{of_space}
 one_more : (n long : ℕ) → n ≡ long → long ≤ 4294967294 → capped (n + 1) ≡ suc long
 one_more n long is few = omega (arith, is, few)
 
+-- what is kept of the last detection is no part of it
+pub parts_with : (c : Settings) (h : List Event) (k : Connection) (d : Option Detection) → HasParts k c h → HasParts (record k { detection = d }) c h
+parts_with c h k d parts = record {
+  header = parts.header;
+  handshake = parts.handshake;
+  rtt = parts.rtt;
+  reno = parts.reno;
+  reported = parts.reported;
+  timer = parts.timer;
+  allowances = parts.allowances;
+  spaces = parts.spaces;
+}
+
+-- nor of what losses are looked for by
+pub measured_with : (c : Settings) (h : List Event) (k : Connection) (d : Option Detection) → IsMeasured k c h → IsMeasured (record k { detection = d }) c h
+measured_with c h k d measured = record { header = measured.header; rtt = measured.rtt; spaces = measured.spaces }
+
 -- once the event is counted, it is kept of the history with the event
-pub counted_is : (c : Settings) (e : Event) (h : List Event) (k : Connection) (d : Option Detection) → d ≡ detection_after c (e ∷ h) → k.events ≡ length h → IsProperToleratedRun c (e ∷ h)
+pub counted_is : (c : Settings) (e : Event) (h : List Event) (k : Connection) (d : Option Space) → search_by d k.detection ≡ search_after c (e ∷ h) → k.events ≡ length h → IsProperToleratedRun c (e ∷ h)
     → HasParts k c (e ∷ h) → IsOf (counted (time_of e) d k) c (e ∷ h)
 counted_is c e h k d is events run parts =
     let long = run.few in
     record {
       events = one_more k.events (length h) events (omega (arith, long));
       last_time = refl;
-      detection = is;
+      search = is;
       parts = record {
         header = parts.header;
         handshake = parts.handshake;

@@ -129,7 +129,7 @@ discarded space now k = record k {
 abbrev pub reported : Option ℕ → Connection → Connection
 reported window k = record k { reported = reporting window k.reported }
 
--- one event more, at a time, which is a detection or is none
-abbrev pub counted : ℕ → Option Detection → Connection → Connection
-counted time detection k =
-    record k { events = capped (k.events + 1); last_time = Some time; detection = detection }
+-- one event more, at a time, which looked for losses in a space or did not
+abbrev pub counted : ℕ → Option Space → Connection → Connection
+counted time searched k =
+    record k { events = capped (k.events + 1); last_time = Some time; searched = searched }

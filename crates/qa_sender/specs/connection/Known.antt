@@ -11,7 +11,7 @@ use Rattle.qa_base.specs.machine.Violations.{IsToleratedRun}
 use Rattle.qa_base.specs.machine.Timer as timers
 use Rattle.qa_base.specs.machine.Widths.{Fits, IsTimely}
 use Rattle.qa_base.specs.values.Settings.{Settings}
-use Rattle.qa_sender.specs.connection.Detecting.{detection_after}
+use Rattle.qa_sender.specs.connection.Detecting.{search_after, search_in}
 use Rattle.qa_sender.specs.connection.Handshaking.{handshake_after}
 use Rattle.qa_sender.specs.connection.Reporting.{reported_after}
 use Rattle.qa_sender.specs.connection.Spaces.{space_after}
@@ -49,7 +49,7 @@ pub record HasParts (k : Connection) (c : Settings) (h : List Event) : Type 0 wh
 pub record IsOf (k : Connection) (c : Settings) (h : List Event) : Type 0 where
   pub events : k.events ≡ length h
   pub last_time : k.last_time ≡ timers.time_of_moment h
-  pub detection : k.detection ≡ detection_after c h
+  pub search : search_in k ≡ search_after c h
   pub parts : HasParts k c h
 
 -- ---- what is told of an event

@@ -7,6 +7,7 @@ ghost use Rattle.qa_sender.specs.connection.Changes.{with_persistent_congestion,
 ghost use Rattle.qa_sender.specs.connection.Changes.{with_congestion_event, with_hit_since};
 ghost use Rattle.qa_sender.specs.connection.Changes.{marked, with_sample};
 ghost use Rattle.qa_base.specs.values.Limits.{max_lines};
+ghost use Rattle.qa_sender.specs.connection.Detecting.{search_in, whole_of};
 ghost use Rattle.qa_sender.specs.connection.Known.{IsOf};
 ghost use Rattle.qa_sender.specs.connection.Reporting.{with_bytes};
 
@@ -33,7 +34,9 @@ pub struct Connection {
     pub events: u64,
     /// When the last event happened.
     pub last_time: Option<Ticks>,
-    /// The last event, where it looked for losses.
+    /// The space in which the last event looked for losses, where it did.
+    pub searched: Option<Space>,
+    /// The last event that looked for losses, where the header lets packets be spared.
     pub detection: Option<Detection>,
     /// How far the handshake is.
     pub handshake: HandshakeState,
@@ -60,6 +63,7 @@ impl Connection {
             header,
             events: 0,
             last_time: None,
+            searched: None,
             detection: None,
             handshake: HandshakeState::start(),
             rtt: sampling::start(&header),
@@ -99,18 +103,17 @@ impl Connection {
         ensures { result ≡ marked self.now time }
     {
         if self.header.options().recovery_by_order {
-            self.place()
+            Ticks::of(u64::from(self.place()))
         } else {
             time
         }
     }
 
-    /// How many events came before the next one, counted as times are. No trace has more than that
-    /// has room for.
-    pub fn place(&self) -> Ticks
+    /// How many events came before the next one. No trace has more than that has room for.
+    pub fn place(&self) -> u32
         ensures { result ≡ min self.now.events max_lines }
     {
-        Ticks::of(self.events.min(MAX_LINES))
+        self.events.min(MAX_LINES) as u32
     }
 
     /// Takes the sample of the round-trip time that an acknowledgment gives of the packets that it
@@ -221,6 +224,16 @@ impl Connection {
         }
     }
 
+    /// The last event, where it looked for losses and the header lets packets be spared.
+    pub fn last_detection(&self) -> Option<Detection>
+        ensures { result ≡ whole_of (search_in self.now) }
+    {
+        match self.searched {
+            None => None,
+            Some(_) => self.detection,
+        }
+    }
+
     /// The window grows by the packets that an acknowledgment newly acknowledges, in the order of
     /// sending, unless the sender was limited by less than the window (B.5; section 7.8). Their
     /// bytes count in what a reported window may be, limited or not.
@@ -310,11 +323,11 @@ impl Connection {
 
     /// One event more happened, at this time, which looked for losses or did not.
     #[inline(always)]
-    pub fn count(&mut self, now: Ticks, detection: Option<Detection>)
-        ensures { self.new ≡ steps.counted now detection self.old }
+    pub fn count(&mut self, now: Ticks, searched: Option<Space>)
+        ensures { self.new ≡ steps.counted now searched self.old }
     {
         self.events = self.events.saturating_add(1);
         self.last_time = Some(now);
-        self.detection = detection;
+        self.searched = searched;
     }
 }

@@ -3,6 +3,7 @@ ghost use Rattle.std.specs.Prelude.{◌≡◌, ◌≤◌, ◌+◌, ◌*◌, ◌^
 ghost use Rattle.std.specs.Prelude.{if◌then◌else◌};
 ghost use Rattle.std.specs.Option.{option_copied, option_or};
 ghost use Rattle.qa_base.specs.declared.event.Event.{Event};
+ghost use Rattle.qa_base.specs.declared.space.TimerKind.TheVariants.{Pto};
 ghost use Rattle.qa_base.specs.machine.Packets as packets;
 ghost use Rattle.qa_base.specs.machine.Timer as timers;
 ghost use Rattle.qa_base.specs.values.Settings.{Settings, granularity};
@@ -62,13 +63,31 @@ fn loss_due(
 
 // ---- probe timeouts
 
+/// A probe timeout of the space, so long after a time, and doubled for each before it. Mostly there
+/// was none, and nothing is doubled.
+#[inline(always)]
+fn pto_from(space: Space, since: Ticks, base: u64, count: u64) -> Due
+    requires base { base ≤ 6000000000000000 }
+    ensures { result
+        ≡ record { kind = Pto; space = space; time = since + base * 2 ^ min count 40 } }
+{
+    if count == 0 {
+        return Due {
+            kind: TimerKind::Pto,
+            space,
+            time: u128::from(since.get() + base),
+        };
+    }
+    Due::probe_timeout(space, since, base, count)
+}
+
 /// A probe timeout of the space, so long after a time, where there is one.
 #[inline(always)]
 fn pto_at(space: Space, since: Option<Ticks>, base: u64, count: u64) -> Option<Due>
     requires base { base ≤ 6000000000000000 }
     ensures { result ≡ deadlines.pto_at space since base count }
 {
-    Some(Due::probe_timeout(space, since?, base, count))
+    Some(pto_from(space, since?, base, count))
 }
 
 /// The probe timeout of the space, where an open packet of it asks for an acknowledgment.

@@ -1,5 +1,5 @@
 //! What is kept of each packet number space.
-ghost use Rattle.std.specs.Prelude.{◌≡◌};
+ghost use Rattle.std.specs.Prelude.{◌≡◌, unwrap_or};
 ghost use Rattle.qa_base.specs.declared.space.Space.{Space};
 ghost use Rattle.qa_sender.specs.connection.Spaces as steps;
 ghost use Rattle.qa_base.specs.values.PerSpace.{of_space};
@@ -46,6 +46,16 @@ impl SpaceState {
         ensures { self.new ≡ steps.with_largest number self.old }
     {
         self.largest = raised(Some(number), self.largest);
+    }
+
+    /// Above the numbers that lie below the largest acknowledged one; 0 where there are none.
+    pub(crate) fn end_below_largest(&self) -> u64
+        ensures { result ≡ unwrap_or self.now.largest 0 }
+    {
+        match self.largest {
+            None => 0,
+            Some(largest) => largest.get(),
+        }
     }
 }
 

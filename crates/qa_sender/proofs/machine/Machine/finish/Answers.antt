@@ -5,7 +5,7 @@ use Rattle.qa_sender.proofs.machine.Machine.finish.Goals as goal
 
 pub returns : goal.returns
 returns c = λ k e h now detected run events parts stands sent watched.
-    let of : IsOf c.count.new.self k (e ∷ h) = rw (c.count.ensures, now) (counted_is k e h c.args.self.now.connection c.args.detection detected events run parts) in
+    let of : IsOf c.count.new.self k (e ∷ h) = rw (c.count.ensures, now) (counted_is k e h c.args.self.now.connection c.args.searched detected events run parts) in
     let kept = c.trim.ensures.stands k (e ∷ h) run.run stands in
     record {
       run = run;

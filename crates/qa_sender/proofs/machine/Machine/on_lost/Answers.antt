@@ -5,6 +5,7 @@ use Rattle.qa_base.specs.machine.Loss.{declared, is_persistent}
 use Rattle.qa_base.specs.machine.Packets.{packets}
 use Rattle.qa_base.specs.values.Events.{is_named}
 use Rattle.qa_sender.specs.connection.Changes.{completed}
+use Rattle.qa_sender.specs.connection.Detecting.{search_in, whole_of}
 use Rattle.qa_sender.specs.connection.Steps.{last_sent}
 use Rattle.qa_sender.specs.declared.connection.detection.Detection.{Detection}
 use Rattle.qa_base.specs.history.Declared.{is_named_free}
@@ -37,7 +38,7 @@ returns c = λ space k h stands run.
     took.ensures.any
     ∙ (ap₂ (λ (f : FreePackets) (rs : List (ℕ × ℕ)). list_any (λ p. is_free_by f p && is_named rs p.number) old.packets.packets) c.free_packets-free.ensures c.as_slice.ensures
     ∙ completed_is_held k h c.args.time space ranges run.run free are old.packets stands.packets) in
-    let full : (d : Detection) → took.result ≡ true → old.connection.detection ≡ Some d → c.complete.new.self.connection ≡ completed d (last_sent k (declared k (e ∷ h))) (is_persistent k (e ∷ h)) old.connection =
+    let full : (d : Detection) → took.result ≡ true → whole_of (search_in old.connection) ≡ Some d → c.complete.new.self.connection ≡ completed d (last_sent k (declared k (e ∷ h))) (is_persistent k (e ∷ h)) old.connection =
     λ d completes at. c.complete.ensures.connection k (e ∷ h) d completes at run.run stands.connection.parts.header (looked_by k h old.connection d stands.connection at)
     (taken_losses k h c.args.time space ranges run.run free are (sym flag ∙ completes) old.packets took.new.self stands.packets taking) in
     let parts = parts_completed k h c.args.time space ranges old.connection c.complete.new.self.connection took.result stands.connection run flag c.complete.ensures.still full c.complete.ensures.range in

@@ -5,7 +5,7 @@ pub returns : goal.returns
 returns c = record {
   events = refl;
   last_time = refl;
-  detection = refl;
+  search = refl;
   parts = record {
     header = refl;
     handshake = c.start.ensures;
