@@ -1,6 +1,7 @@
 -- Lemmas of the quick reader.
 pub mod Reading
 pub mod Spelling
+pub mod Known
 pub mod Finding
 pub mod Taking
 pub mod Present

@@ -13,8 +13,8 @@ use Rattle.qa_format.specs.format.Proper.{IsRange}
 use Rattle.qa_format.proofs.format.Compact.{of_json-outline, depth-outline}
 use Rattle.qa_format.proofs.format.KeysWritten.{ranges_are_kept}
 use Rattle.qa_scan.specs.Lexes.{Lexes, lexemes, IsValueOf}
-use Rattle.qa_fast_reader.specs.Ranges.{Spans, ranges_data, TakesRange, TakesRanges, FollowsRanges, IsShortRange}
-use Rattle.qa_scan.proofs.Lexing.{then, lexes_begin_array, lexes_comma, lexes_end_array, lexes_integer}
+use Rattle.qa_fast_reader.specs.Ranges.{Spans, ranges_data, IsBehindSpace, IsPair, TakesRange, TakesRanges, FollowsRanges, IsShortRange}
+use Rattle.qa_scan.proofs.Lexing.{then, lexes_nothing, one_space, lexes_begin_array, lexes_comma, lexes_end_array, lexes_integer}
 use Rattle.qa_scan.specs.Short.{IsShort, AreTwoCodes}
 use Rattle.std.proofs.lemmas.List.{drop_more}
 use Rattle.json.specs.Word.{ends_word}
@@ -25,6 +25,12 @@ use Rattle.qa_fast_reader.proofs.Saying.{range_is}
 ordered : (b : Bool) (range span : ℕ × ℕ) → cond b (Some range) None ≡ Some span → (b ≡ true) × (range ≡ span)
 ordered true range span is = (refl, cc)
 ordered false range span is = cc
+
+-- two numbers in brackets
+pub is_pair : (l h : ℕ) (bytes a b c d rest : List ℕ)
+    → Lexes bytes a (token tokens.begin_array ∷ []) → Lexes a b (token (tokens.number (decimal l)) ∷ []) → Lexes b c (comma ∷ []) → Lexes c d (token (tokens.number (decimal h)) ∷ [])
+    → Lexes d rest (token tokens.end_array ∷ []) → IsPair l h bytes rest
+is_pair l h bytes a b c d rest opened first parted second closed = then opened (then first (then parted (then second closed)))
 
 pub takes_range : (old new : Spans) (l h lo hi : ℕ) (span : ℕ × ℕ) (bytes a b c d rest : List ℕ)
     → Lexes bytes a (token tokens.begin_array ∷ []) → Lexes a b (token (tokens.number (decimal l)) ∷ []) → Lexes b c (comma ∷ []) → Lexes c d (token (tokens.number (decimal h)) ∷ [])
@@ -43,7 +49,7 @@ takes_range old new l h lo hi span bytes a b c d rest opened first parted second
       range = span;
       is_new = is_new;
       is_range = (omega (arith, is_lo, is_hi), omega (arith, is_hi, high.1));
-      lexed = subst P are (then opened (then first (then parted (then second closed))));
+      lexed = subst P are (is_pair l h bytes a b c d rest opened first parted second closed);
     }
 
 -- what stands behind a short number, and that it stands behind its digits
@@ -69,6 +75,32 @@ short_range_is l h d e bytes inside second long opened some ordered low parted i
       small = high.small;
       near = omega (arith, low.few, high.few);
     }
+
+-- a space at a place, or none
+pub behind_a_space : (bs : List ℕ) (i : ℕ) → i < length bs → get_or bs i 0 ≡ 32 → IsBehindSpace bs i (i + 1)
+behind_a_space bs i within is = record { from = omega arith; near = omega arith; spaced = one_space _ _ (byte_at bs i 32 within is) }
+
+pub behind_no_space : (bs : List ℕ) (i : ℕ) → IsBehindSpace bs i i
+behind_no_space bs i = record { from = omega arith; near = omega arith; spaced = lexes_nothing _ }
+
+-- a range of short numbers, from the places of its parts, with one space between its numbers at most
+pub short_pair_is : (l h d e next : ℕ) (bytes inside second : List ℕ) → 37 ≤ length bytes → bytes ≡ 91 ∷ inside → 0 < l → l ≤ h → IsShort inside l d → get_or bytes (1 + d) 0 ≡ 44
+    → IsBehindSpace bytes (1 + d + 1) next → second ≡ drop next bytes → IsShort second h e → get_or bytes (next + e) 0 ≡ 93 → IsPair l h bytes (drop (next + e + 1) bytes)
+short_pair_is l h d e next bytes inside second long opened some ordered low parted spaced is_second high closed =
+    let one : 1 + d ≡ suc d = omega arith in
+    let place : drop (1 + d) bytes ≡ drop d inside = ap (λ k. drop k bytes) one ∙ ap (drop (suc d)) opened in
+    let lower : inside ≡ decimal l ++ drop (1 + d) bytes = behind_short inside l d low some ∙ ap (λ b. decimal l ++ b) (sym place) in
+    let comma_is : drop (1 + d) bytes ≡ 44 ∷ drop (1 + d + 1) bytes = byte_at bytes (1 + d) 44 (omega (arith, long, low.few)) parted in
+    let behind : drop e second ≡ drop (next + e) bytes = ap (drop e) is_second ∙ drop-drop e next bytes in
+    let upper : second ≡ decimal h ++ drop (next + e) bytes = behind_short second h e high (omega (arith, some, ordered)) ∙ ap (λ b. decimal h ++ b) behind in
+    let end_is : drop (next + e) bytes ≡ 93 ∷ drop (next + e + 1) bytes = byte_at bytes (next + e) 93 (omega (arith, long, low.few, high.few, spaced.near)) closed in
+    let between : Lexes (drop (1 + d + 1) bytes) second [] = subst (λ (b : List ℕ). Lexes (drop (1 + d + 1) bytes) b []) (sym is_second) spaced.spaced in
+    is_pair l h bytes inside (drop (1 + d) bytes) second (drop (next + e) bytes) (drop (next + e + 1) bytes)
+    (lexes_begin_array bytes inside opened)
+    (lexes_integer l inside (drop (1 + d) bytes) (omega (arith, ordered, high.small)) (ap ends_word comma_is) lower)
+    (then (lexes_comma _ _ comma_is) between)
+    (lexes_integer h second (drop (next + e) bytes) (omega (arith, high.small)) (ap ends_word end_is) upper)
+    (lexes_end_array _ _ end_is)
 
 -- the same as a range that goes behind the others, where it is closed
 short_takes : (old new : Spans) (l h end : ℕ) (bytes rest : List ℕ) → IsShortRange bytes l h end → drop end bytes ≡ 93 ∷ rest → new ≡ old ++ (l, h) ∷ [] → IsRange (l, h) → TakesRange old new bytes rest

@@ -24,7 +24,7 @@ use Rattle.qa_format.specs.format.Proper.{IsWord}
 use Rattle.qa_format.proofs.format.ProperReadings.{reading_fits}
 use Rattle.qa_fast_reader.specs.declared.found.Found.{Found}
 use Rattle.qa_scan.specs.Lexes.{Lexes, lexemes, members_lexemes, is_plain, IsQuoted, IsKey, deepest, IsValueOf, IsValue}
-use Rattle.qa_fast_reader.specs.Found.{Holds, Keeps, Puts, Takes, TakesNothing, Follows, Ends, EndsIf, PutsIf, SaysLine, Reads, IsLineOf, IsEnd, Closes, IsMember, FollowsMembers, nothing, is_known}
+use Rattle.qa_fast_reader.specs.Found.{Holds, Keeps, Puts, Takes, TakesNothing, Follows, Ends, EndsIf, PutsIf, IsLaterKey, SaysLine, Reads, IsLineOf, IsEnd, Closes, IsMember, FollowsMembers, nothing, is_known}
 use Rattle.qa_scan.proofs.Lexing.{lexes_quoted, lexes_colon, lexes_comma, lexes_begin_object, lexes_end_object, one_return, then}
 use Rattle.qa_fast_reader.proofs.Finding.{stays_apart}
 use Rattle.qa_fast_reader.proofs.Items.{string_member}
@@ -220,6 +220,33 @@ next_if key old new whole bytes behind rest all_plain is puts before ended = nex
 pub first_if : (key : List ℕ) (new : Found) (bytes behind rest : List ℕ) → list_all is_plain key ≡ true → bytes ≡ (123 ∷ 34 ∷ (key ++ 34 ∷ 58 ∷ [])) ++ behind
     → PutsIf key nothing new behind rest → EndsIf new bytes rest
 first_if key new bytes behind rest all_plain is puts ended = first_member key new bytes behind rest all_plain is (puts ended)
+
+-- ---- members in a usual order, with white space
+
+-- a word of a key in quotes and a colon, and white space behind it
+pub key_spaced : (key word bytes behind rest : List ℕ) → word ≡ 34 ∷ (key ++ 34 ∷ 58 ∷ []) → bytes ≡ word ++ behind → Lexes behind rest [] → IsKey key bytes rest
+key_spaced key word bytes behind rest named is spaced = record {
+  middle = 58 ∷ behind;
+  quoted = is ∙ ap (λ (w : List ℕ). w ++ behind) named ∙ ap (λ l. 34 ∷ l) (append_assoc key (34 ∷ 58 ∷ []) behind);
+  at_colon = then (lexes_colon (58 ∷ behind) behind refl) spaced;
+}
+
+-- the first member that an event asks for, where what comes behind ends its value
+pub front_if : (key : List ℕ) (new : Found) (whole bytes behind rest : List ℕ) → list_all is_plain key ≡ true → Follows nothing whole bytes → IsKey key bytes behind
+    → PutsIf key nothing new behind rest → EndsIf new whole rest
+front_if key new whole bytes behind rest all_plain before is puts ended =
+    record { old = nothing; last = bytes; before = before; takes = takes key nothing new bytes behind rest all_plain is (puts ended) }
+
+-- one member more, likewise
+pub later_if : (key : List ℕ) (old new : Found) (whole bytes behind rest : List ℕ) → list_all is_plain key ≡ true → IsLaterKey key bytes behind
+    → PutsIf key old new behind rest → EndsIf old whole bytes → EndsIf new whole rest
+later_if key old new whole bytes behind rest all_plain is puts before_if ended =
+    let before = before_if is.ended in record {
+      old = old;
+      last = is.member;
+      before = goes_on before.old old whole before.last bytes is.member before.before before.takes is.at_comma;
+      takes = takes key old new is.member behind rest all_plain is.is_key (puts ended);
+    }
 
 -- a comma and a member that gives nothing
 pub passes_next : (f : Found) (whole bytes more rest : List ℕ) → ends_word bytes ≡ true → Lexes bytes more (comma ∷ []) → TakesNothing more rest

@@ -7,7 +7,7 @@ use Rattle.std.specs.Str.{IsUtf8}
 use Rattle.json.specs.Token as tokens
 use Rattle.json.specs.Json as form
 use Rattle.json.specs.Json.{Json}
-use Rattle.json.specs.Lex.{between, lex, token}
+use Rattle.json.specs.Lex.{between, lex, token, comma}
 use Rattle.json.specs.Word.{ends_word}
 use Rattle.json.specs.Tree.{members_depth}
 use Rattle.serde_json.specs.Data as json
@@ -27,7 +27,7 @@ use Rattle.qa_format.specs.format.Proper.{IsRange, AreWords}
 use Rattle.qa_format.specs.format.Reading.{json_of, object_says, reader_named, reading}
 use Rattle.qa_format.specs.format.Written.{integer, string, boolean, line_fits}
 use Rattle.qa_fast_reader.specs.declared.found.Found.{Found}
-use Rattle.qa_scan.specs.Lexes.{members_lexemes, deepest, IsValueOf, Lexes}
+use Rattle.qa_scan.specs.Lexes.{members_lexemes, deepest, IsKey, IsValueOf, Lexes}
 use Rattle.qa_fast_reader.specs.Ranges.{ranges_data}
 use Rattle.qa_fast_reader.specs.Items.{IsMemberWithin}
 
@@ -218,6 +218,13 @@ Continues old new bytes rest = (whole : List ℕ) → EndsIf old whole bytes →
 pub record IsNextKey (text bytes : List ℕ) (place : ℕ) : Type 0 where
   pub within : place ≤ length bytes
   pub is : bytes ≡ (44 ∷ 34 ∷ (text ++ 34 ∷ 58 ∷ [])) ++ drop place bytes
+
+-- the bytes end an integer or a literal, and are a comma, this key and the rest
+pub record IsLaterKey (key bytes rest : List ℕ) : Type 0 where
+  pub ended : ends_word bytes ≡ true
+  pub member : List ℕ
+  pub at_comma : Lexes bytes member (comma ∷ [])
+  pub is_key : IsKey key member rest
 
 -- what was found says this line
 abbrev pub SaysLine : Found → Line → Type 0

@@ -1,6 +1,6 @@
 -- What is found of a list of ranges.
-use Rattle.std.specs.Prelude.{◌≡◌, ◌<◌, ◌≤◌, ◌^◌, ◌++◌, ◌∷◌, [], ℕ, List, true, false, drop}
-use Rattle.std.specs.Prelude.{decimal}
+use Rattle.std.specs.Prelude.{◌≡◌, ◌<◌, ◌≤◌, ◌+◌, ◌^◌, ◌++◌, ◌∷◌, [], ℕ, List, true, false}
+use Rattle.std.specs.Prelude.{decimal, drop}
 use Rattle.std.specs.List.{AllByRecursion}
 use Rattle.std.specs.Str.{IsUtf8}
 use Rattle.json.specs.Lex.{Lexeme, between, lex}
@@ -18,6 +18,16 @@ Spans = List (ℕ × ℕ)
 -- the value that the ranges are
 abbrev pub ranges_data : Spans → Data
 ranges_data ranges = json.array (integer_pairs ranges)
+
+-- the bytes are a list of these two numbers, and the rest
+abbrev pub IsPair : ℕ → ℕ → List ℕ → List ℕ → Type 0
+IsPair lo hi bytes rest = Lexes bytes rest (lexemes (outline (integer_pair (lo, hi))))
+
+-- the second place is the first or the next, and nothing but white space stands between them
+pub record IsBehindSpace (bytes : List ℕ) (place next : ℕ) : Type 0 where
+  pub from : place ≤ next
+  pub near : next ≤ place + 1
+  pub spaced : Lexes (drop place bytes) (drop next bytes) []
 
 -- the bytes are a range and the rest, and the range goes behind the others
 pub record TakesRange (old new : Spans) (bytes rest : List ℕ) : Type 0 where

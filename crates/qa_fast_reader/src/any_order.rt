@@ -1,17 +1,50 @@
 //! Members of an object in any order, with white space and with keys that no event has.
-ghost use Rattle.qa_fast_reader.specs.Found.{Reads};
+ghost use Rattle.std.specs.Prelude.{ℕ, List, IfSome};
+ghost use Rattle.qa_fast_reader.specs.Found.{Follows, Reads, nothing};
 
 use crate::found::Found;
+use crate::in_order::in_order;
+use crate::keys::event_key;
+use crate::unknown::unknown_member;
 use qa_format::Line;
 use qa_scan::{begin_object, comma, end_object};
 use std::alloc::Global;
 
 /// The event that the bytes of a line say, where its keys may be in any order.
-#[inline(never)]
 pub fn any_order(alloc: Global, bytes: &[u8]) -> Option<Line>
     ensures { Reads bytes.now result }
 {
+    let rest = front(bytes)?;
+    if let Some(line) = in_order(alloc, rest) {
+        return Some(line);
+    }
+    line_of_members(alloc, rest)
+}
+
+/// What follows the brace that opens the object, and the members at its front whose keys no event
+/// has, as loggers put them there.
+fn front(bytes: &[u8]) -> Option<&[u8]>
+    ensures { IfSome result (λ rest. Follows nothing bytes.now rest.now) }
+{
     let mut rest = begin_object(bytes)?;
+    for i in 0..u64::MAX {
+        if event_key(rest).is_some() {
+            return Some(rest);
+        }
+        let behind = unknown_member(rest)?;
+        let more = comma(behind)?;
+        rest = more;
+    }
+    None
+}
+
+/// The event that the members of an object say, from a key on, before which there is nothing that
+/// an event asks for.
+#[inline(never)]
+fn line_of_members(alloc: Global, bytes: &[u8]) -> Option<Line>
+    ensures { (whole : List ℕ) → Follows nothing whole bytes.now → Reads whole result }
+{
+    let mut rest = bytes;
     let mut found = Found::nothing();
     for i in 0..u64::MAX {
         let behind = found.member(alloc, rest)?;

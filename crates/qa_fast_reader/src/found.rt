@@ -1,5 +1,5 @@
 //! What was found at the keys of an object.
-ghost use Rattle.std.specs.Prelude.{◌≡◌, IfSome, codes};
+ghost use Rattle.std.specs.Prelude.{◌≡◌, IfNone, IfSome, codes};
 ghost use Rattle.serde_json.specs.Data as json;
 ghost use Rattle.qa_base.specs.values.Names.{field_name, key_name};
 ghost use Rattle.qa_format.specs.format.Written as written;
@@ -12,15 +12,6 @@ use crate::unknown::unknown_member;
 use qa_base::{Field, Key, LineKind, MetricValues, Permission, Space, Spans, TimerKind};
 use qa_scan::{boolean, integer, null};
 use std::alloc::Global;
-
-/// Whether the first byte is that of null, which no other value begins with.
-#[inline(always)]
-fn begins_null(bytes: &[u8]) -> bool {
-    let [first, ..] = bytes else {
-        return false;
-    };
-    *first == b'n'
-}
 
 /// What was found at the keys of an object.
 #[derive(Drop)]
@@ -89,17 +80,19 @@ impl Found {
     fn value_or_null<'a>(&mut self, alloc: Global, key: Key, bytes: &'a [u8]) -> Option<&'a [u8]>
         ensures { IfSome result (λ rest. Puts (key_name key) self.old self.new bytes.now rest.now) }
     {
-        if begins_null(bytes) {
-            let rest = self.null_at(key, bytes)?;
+        if let Some(rest) = self.value(alloc, key, bytes) {
             return Some(rest);
         }
-        self.value(alloc, key, bytes)
+        let rest = self.null_at(key, bytes)?;
+        Some(rest)
     }
 
     /// The value of a key is found; gives what follows it.
     #[inline(always)]
     fn value<'a>(&mut self, alloc: Global, key: Key, bytes: &'a [u8]) -> Option<&'a [u8]>
-        ensures { IfSome result (λ rest. Puts (key_name key) self.old self.new bytes.now rest.now) }
+        ensures found { IfSome result
+            (λ rest. Puts (key_name key) self.old self.new bytes.now rest.now) }
+        ensures kept { IfNone result (self.new ≡ self.old) }
     {
         match key {
             Key::Event => self.event(bytes),
@@ -170,9 +163,10 @@ impl Found {
 
     /// The kind of the event is found.
     #[inline(always)]
-    fn event<'a>(&mut self, bytes: &'a [u8]) -> Option<&'a [u8]>
-        ensures { IfSome result
+    pub fn event<'a>(&mut self, bytes: &'a [u8]) -> Option<&'a [u8]>
+        ensures found { IfSome result
             (λ rest. Puts (codes "event") self.old self.new bytes.now rest.now) }
+        ensures kept { IfNone result (self.new ≡ self.old) }
     {
         let (kind, rest) = line_kind(bytes)?;
         self.event = Some(kind);
@@ -181,8 +175,10 @@ impl Found {
 
     /// The time is found.
     #[inline(always)]
-    fn time<'a>(&mut self, bytes: &'a [u8]) -> Option<&'a [u8]>
-        ensures { IfSome result (λ rest. Puts (codes "time") self.old self.new bytes.now rest.now) }
+    pub fn time<'a>(&mut self, bytes: &'a [u8]) -> Option<&'a [u8]>
+        ensures found { IfSome result
+            (λ rest. Puts (codes "time") self.old self.new bytes.now rest.now) }
+        ensures kept { IfNone result (self.new ≡ self.old) }
     {
         let (value, rest) = integer(bytes)?;
         self.time = Some(value);
@@ -192,8 +188,9 @@ impl Found {
     /// The packet number space is found.
     #[inline(always)]
     pub fn space<'a>(&mut self, bytes: &'a [u8]) -> Option<&'a [u8]>
-        ensures { IfSome result
+        ensures found { IfSome result
             (λ rest. Puts (codes "space") self.old self.new bytes.now rest.now) }
+        ensures kept { IfNone result (self.new ≡ self.old) }
     {
         let (found, rest) = space(bytes)?;
         self.space = Some(found);
@@ -202,9 +199,10 @@ impl Found {
 
     /// The packet number is found.
     #[inline(always)]
-    fn number<'a>(&mut self, bytes: &'a [u8]) -> Option<&'a [u8]>
-        ensures { IfSome result
+    pub fn number<'a>(&mut self, bytes: &'a [u8]) -> Option<&'a [u8]>
+        ensures found { IfSome result
             (λ rest. Puts (codes "number") self.old self.new bytes.now rest.now) }
+        ensures kept { IfNone result (self.new ≡ self.old) }
     {
         let (value, rest) = integer(bytes)?;
         self.number = Some(value);
@@ -213,8 +211,10 @@ impl Found {
 
     /// The size of the packet is found.
     #[inline(always)]
-    fn size<'a>(&mut self, bytes: &'a [u8]) -> Option<&'a [u8]>
-        ensures { IfSome result (λ rest. Puts (codes "size") self.old self.new bytes.now rest.now) }
+    pub fn size<'a>(&mut self, bytes: &'a [u8]) -> Option<&'a [u8]>
+        ensures found { IfSome result
+            (λ rest. Puts (codes "size") self.old self.new bytes.now rest.now) }
+        ensures kept { IfNone result (self.new ≡ self.old) }
     {
         let (value, rest) = integer(bytes)?;
         self.size = Some(value);
@@ -223,9 +223,10 @@ impl Found {
 
     /// Whether the packet is ack-eliciting is found.
     #[inline(always)]
-    fn eliciting<'a>(&mut self, bytes: &'a [u8]) -> Option<&'a [u8]>
-        ensures { IfSome result
+    pub fn eliciting<'a>(&mut self, bytes: &'a [u8]) -> Option<&'a [u8]>
+        ensures found { IfSome result
             (λ rest. Puts (codes "eliciting") self.old self.new bytes.now rest.now) }
+        ensures kept { IfNone result (self.new ≡ self.old) }
     {
         let (value, rest) = boolean(bytes)?;
         self.eliciting = Some(value);
@@ -234,9 +235,10 @@ impl Found {
 
     /// Whether the packet is in flight is found.
     #[inline(always)]
-    fn in_flight<'a>(&mut self, bytes: &'a [u8]) -> Option<&'a [u8]>
-        ensures { IfSome result
+    pub fn in_flight<'a>(&mut self, bytes: &'a [u8]) -> Option<&'a [u8]>
+        ensures found { IfSome result
             (λ rest. Puts (codes "in_flight") self.old self.new bytes.now rest.now) }
+        ensures kept { IfNone result (self.new ≡ self.old) }
     {
         let (value, rest) = boolean(bytes)?;
         self.in_flight = Some(value);
@@ -246,8 +248,9 @@ impl Found {
     /// Why the packet was allowed to leave is found.
     #[inline(always)]
     pub fn permission<'a>(&mut self, bytes: &'a [u8]) -> Option<&'a [u8]>
-        ensures { IfSome result
+        ensures found { IfSome result
             (λ rest. Puts (codes "leave") self.old self.new bytes.now rest.now) }
+        ensures kept { IfNone result (self.new ≡ self.old) }
     {
         let (found, rest) = permission(bytes)?;
         self.permission = Some(found);
@@ -256,9 +259,10 @@ impl Found {
 
     /// The ranges are found.
     #[inline(always)]
-    fn ranges<'a>(&mut self, alloc: Global, bytes: &'a [u8]) -> Option<&'a [u8]>
-        ensures { IfSome result
+    pub fn ranges<'a>(&mut self, alloc: Global, bytes: &'a [u8]) -> Option<&'a [u8]>
+        ensures found { IfSome result
             (λ rest. Puts (codes "ranges") self.old self.new bytes.now rest.now) }
+        ensures kept { IfNone result (self.new ≡ self.old) }
     {
         let mut spans = Spans::new(alloc);
         let rest = ranges(&mut spans, bytes)?;
@@ -268,9 +272,10 @@ impl Found {
 
     /// The delay of the acknowledgment is found.
     #[inline(always)]
-    fn delay<'a>(&mut self, bytes: &'a [u8]) -> Option<&'a [u8]>
-        ensures { IfSome result
+    pub fn delay<'a>(&mut self, bytes: &'a [u8]) -> Option<&'a [u8]>
+        ensures found { IfSome result
             (λ rest. Puts (codes "delay") self.old self.new bytes.now rest.now) }
+        ensures kept { IfNone result (self.new ≡ self.old) }
     {
         let (value, rest) = integer(bytes)?;
         self.delay = Some(value);
@@ -279,9 +284,10 @@ impl Found {
 
     /// Whether the sender was limited by the application is found.
     #[inline(always)]
-    fn app_limited<'a>(&mut self, bytes: &'a [u8]) -> Option<&'a [u8]>
-        ensures { IfSome result
+    pub fn app_limited<'a>(&mut self, bytes: &'a [u8]) -> Option<&'a [u8]>
+        ensures found { IfSome result
             (λ rest. Puts (codes "limited") self.old self.new bytes.now rest.now) }
+        ensures kept { IfNone result (self.new ≡ self.old) }
     {
         let (value, rest) = boolean(bytes)?;
         self.app_limited = Some(value);
@@ -291,7 +297,9 @@ impl Found {
     /// The kind of the timer is found.
     #[inline(always)]
     fn kind<'a>(&mut self, bytes: &'a [u8]) -> Option<&'a [u8]>
-        ensures { IfSome result (λ rest. Puts (codes "kind") self.old self.new bytes.now rest.now) }
+        ensures found { IfSome result
+            (λ rest. Puts (codes "kind") self.old self.new bytes.now rest.now) }
+        ensures kept { IfNone result (self.new ≡ self.old) }
     {
         let (found, rest) = timer_kind(bytes)?;
         self.kind = Some(found);
@@ -302,8 +310,9 @@ impl Found {
     /// result is made ready here alone.
     #[inline(always)]
     fn metric_value<'a>(&mut self, field: Field, bytes: &'a [u8]) -> Option<&'a [u8]>
-        ensures { IfSome result
+        ensures found { IfSome result
             (λ rest. Puts (field_name field) self.old self.new bytes.now rest.now) }
+        ensures kept { IfNone result (self.new ≡ self.old) }
     {
         let rest = self.reported(field, bytes)?;
         Some(rest)
@@ -312,8 +321,9 @@ impl Found {
     /// The same. It stands apart, since few lines have such a value.
     #[inline(never)]
     fn reported<'a>(&mut self, field: Field, bytes: &'a [u8]) -> Option<&'a [u8]>
-        ensures { IfSome result
+        ensures found { IfSome result
             (λ rest. Puts (field_name field) self.old self.new bytes.now rest.now) }
+        ensures kept { IfNone result (self.new ≡ self.old) }
     {
         let (value, rest) = integer(bytes)?;
         self.metric(field, value);

@@ -1,5 +1,5 @@
 //! The keys of events.
-ghost use Rattle.std.specs.Prelude.{◌≡◌, ◌++◌, ◌∷◌, [], bytes_eq, IfSome};
+ghost use Rattle.std.specs.Prelude.{◌≡◌, ◌++◌, ◌∷◌, ◌||◌, [], bytes_eq, codes, IfSome};
 ghost use Rattle.qa_base.specs.values.Names.{key_name};
 ghost use Rattle.qa_scan.specs.Lexes.{IsKey};
 ghost use Rattle.qa_fast_reader.specs.Found as found;
@@ -70,38 +70,70 @@ fn is(key: &[u8], name: &[u8]) -> bool
     name == key
 }
 
-/// Whether an event has this key.
+/// Whether an event has this key. Its length leaves few names to compare.
 pub fn is_known(key: &[u8]) -> bool
     ensures { result ≡ found.is_known key.now }
 {
-    is_known_word(key) || is_known_metric(key)
+    match key.len() {
+        4 => is_known_of_four(key),
+        5 => is_known_of_five(key),
+        6 => is_known_of_six(key),
+        7 => is_known_of_seven(key),
+        8 => is(key, b"ssthresh"),
+        9 => is_known_of_nine(key),
+        10 => is(key, b"latest_rtt"),
+        12 => is(key, b"smoothed_rtt"),
+        15 => is(key, b"bytes_in_flight"),
+        _ => false,
+    }
 }
 
-fn is_known_word(key: &[u8]) -> bool
-    ensures { result ≡ found.is_known_word key.now }
+/// Whether it is one of those with four letters.
+#[inline(always)]
+fn is_known_of_four(key: &[u8]) -> bool
+    ensures { result ≡ (bytes_eq (codes "time") key.now
+        || bytes_eq (codes "size") key.now
+        || bytes_eq (codes "kind") key.now) }
 {
-    is(key, b"event")
-        || is(key, b"time")
-        || is(key, b"space")
-        || is(key, b"number")
-        || is(key, b"size")
-        || is(key, b"eliciting")
-        || is(key, b"in_flight")
-        || is(key, b"leave")
-        || is(key, b"ranges")
-        || is(key, b"delay")
-        || is(key, b"limited")
-        || is(key, b"kind")
+    is(key, b"time") || is(key, b"size") || is(key, b"kind")
 }
 
-fn is_known_metric(key: &[u8]) -> bool
-    ensures { result ≡ found.is_known_metric key.now }
+/// Whether it is one of those with five letters.
+#[inline(always)]
+fn is_known_of_five(key: &[u8]) -> bool
+    ensures { result ≡ (bytes_eq (codes "event") key.now
+        || bytes_eq (codes "space") key.now
+        || bytes_eq (codes "leave") key.now
+        || bytes_eq (codes "delay") key.now) }
 {
-    is(key, b"window")
-        || is(key, b"ssthresh")
-        || is(key, b"bytes_in_flight")
-        || is(key, b"latest_rtt")
-        || is(key, b"min_rtt")
-        || is(key, b"smoothed_rtt")
-        || is(key, b"rttvar")
+    is(key, b"event") || is(key, b"space") || is(key, b"leave") || is(key, b"delay")
+}
+
+/// Whether it is one of those with six letters.
+#[inline(always)]
+fn is_known_of_six(key: &[u8]) -> bool
+    ensures { result ≡ (bytes_eq (codes "number") key.now
+        || bytes_eq (codes "ranges") key.now
+        || bytes_eq (codes "window") key.now
+        || bytes_eq (codes "rttvar") key.now) }
+{
+    is(key, b"number") || is(key, b"ranges") || is(key, b"window") || is(key, b"rttvar")
+}
+
+/// Whether it is one of those with seven letters.
+#[inline(always)]
+fn is_known_of_seven(key: &[u8]) -> bool
+    ensures { result ≡ (bytes_eq (codes "limited") key.now
+        || bytes_eq (codes "min_rtt") key.now) }
+{
+    is(key, b"limited") || is(key, b"min_rtt")
+}
+
+/// Whether it is one of those with nine letters.
+#[inline(always)]
+fn is_known_of_nine(key: &[u8]) -> bool
+    ensures { result ≡ (bytes_eq (codes "eliciting") key.now
+        || bytes_eq (codes "in_flight") key.now) }
+{
+    is(key, b"eliciting") || is(key, b"in_flight")
 }

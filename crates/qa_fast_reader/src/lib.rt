@@ -10,6 +10,7 @@ mod any_order;
 mod events;
 mod exact;
 mod found;
+mod in_order;
 mod keys;
 mod line;
 mod members;

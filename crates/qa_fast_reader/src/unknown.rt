@@ -25,7 +25,21 @@ pub fn unknown_member(bytes: &[u8]) -> Option<&[u8]>
     if is_known(key) {
         return None;
     }
-    value(colon(rest)?, DEEPEST)
+    any_value(colon(rest)?)
+}
+
+/// What follows a value, which mostly is no list and no object.
+#[inline(always)]
+fn any_value(bytes: &[u8]) -> Option<&[u8]>
+    ensures { IfSome result (λ rest. IsSomeValue 126 bytes.now rest.now) }
+{
+    let [first, ..] = bytes else {
+        return None;
+    };
+    if *first == b'[' || *first == b'{' {
+        return value(bytes, DEEPEST);
+    }
+    simple_value(bytes)
 }
 
 /// What follows a comma and a member whose key no event has. It stands apart, since most lines have

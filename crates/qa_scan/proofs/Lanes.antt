@@ -153,7 +153,7 @@ moved_digits lanes d long few =
 
 -- ---- bytes less the digit zero
 
-abbrev minus : ℕ → ℕ → ℕ
+abbrev pub minus : ℕ → ℕ → ℕ
 minus a b = (a + (256 - b)) % 256
 
 pub less : (bs : List ℕ) (j : ℕ) → length bs ≡ 16 → j < 16 → get_or bs j 0 < 256 → get_or (zip2 minus bs (replicate 16 48)) j 0 < 10 → get_or bs j 0 ≡ get_or (zip2 minus bs (replicate 16 48)) j 0 + 48

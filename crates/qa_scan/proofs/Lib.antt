@@ -6,3 +6,4 @@ pub mod Tops
 pub mod Lexing
 pub mod Lanes
 pub mod Passing
+pub mod Runs

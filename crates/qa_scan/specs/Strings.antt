@@ -1,9 +1,10 @@
 -- What stands in a string, to the lexer of JSON.
-use Rattle.std.specs.Prelude.{◌≡◌, ◌≤◌, ◌+◌, ◌||◌, ◌==◌, ℕ, List, Bool, Some, nat_le, length, drop}
-use Rattle.std.specs.Prelude.{get_or}
+use Rattle.std.specs.Prelude.{◌≡◌, ◌≤◌, ◌<◌, ◌+◌, ◌||◌, ◌==◌, ℕ, List, Bool, true, Some, nat_le}
+use Rattle.std.specs.Prelude.{length, drop, get_or}
 use Rattle.std.specs.Str.{IsUtf8}
 use Rattle.json.specs.Lex.{lex, in_string}
 use Rattle.json.specs.Text.{content, plain, prepend, code_unit}
+use Rattle.qa_scan.specs.Lexes.{is_plain}
 
 -- inside a string, the bytes are some of its text and then what the rest is, and they are text in
 -- UTF-8 where the rest is
@@ -18,6 +19,12 @@ pub record IsPart (bytes : List ℕ) (i j : ℕ) : Type 0 where
   pub after : i ≤ j
   pub within : j ≤ length bytes
   pub passes : Passes (drop i bytes) (drop j bytes)
+
+-- from the first to the second of two places the bytes are plain
+pub record ArePlain (bytes : List ℕ) (i j : ℕ) : Type 0 where
+  pub after : i ≤ j
+  pub within : j ≤ length bytes
+  pub plain : (k : ℕ) → i ≤ k → k < j → is_plain (get_or bytes k 0) ≡ true
 
 -- a byte above printable ASCII
 abbrev pub is_high : ℕ → Bool

@@ -8,6 +8,7 @@
 
 mod digits;
 mod numbers;
+mod plain;
 mod short;
 mod strings;
 mod tokens;
@@ -18,6 +19,6 @@ pub use short::{short_integer, two_codes};
 pub use strings::any_string;
 pub use tokens::{
     begin_array, begin_object, boolean, colon, comma, end_array, end_object, ends_word, integer,
-    null, open_boolean, open_integer, open_integer_at, string,
+    null, open_boolean, open_integer, open_integer_at, skip_space, string,
 };
 pub use words::{after, after_byte, is_last};

@@ -6,7 +6,7 @@ ghost use Rattle.qa_scan.specs.Lexes.{IsString};
 ghost use Rattle.qa_scan.specs.Strings.{IsPart, IsUnit, IsUnitAt};
 ghost use Rattle.qa_scan.specs.Strings.{is_high as is_high_byte, is_short as is_short_byte};
 
-use crate::tokens::is_plain;
+use crate::plain::plain_end;
 use crate::words::after_byte;
 
 /// The lowest code unit that begins a pair of surrogates.
@@ -17,22 +17,6 @@ const SECOND_SURROGATE: u32 = 0xdc00;
 
 /// The lowest code unit behind the surrogates.
 const BEHIND_SURROGATES: u32 = 0xe000;
-
-/// Where the bytes that stand for themselves end, from a place on.
-#[inline(always)]
-fn plain_end(bytes: &[u8], start: usize) -> usize
-    requires { start ≤ length bytes.now }
-    ensures { IsPart bytes.now start result }
-{
-    let mut i = start;
-    while i < bytes.len() {
-        if !is_plain(bytes[i]) {
-            break;
-        }
-        i += 1;
-    }
-    i
-}
 
 /// Whether the byte is above printable ASCII.
 #[inline(always)]

@@ -10,6 +10,7 @@ ghost use Rattle.qa_format.specs.format.Written as written;
 ghost use Rattle.qa_scan.specs.Lexes.{Lexes, IsPast, IsQuoted, is_plain as is_plain_byte};
 
 use crate::digits::{digits, digits_at};
+use crate::plain::plain_end;
 use crate::words::{after, after_byte};
 
 /// White space of JSON.
@@ -30,7 +31,7 @@ fn is_operator(byte: u8) -> bool
 
 /// The bytes behind the white space that they begin with.
 #[inline(always)]
-fn skip_space(bytes: &[u8]) -> &[u8]
+pub fn skip_space(bytes: &[u8]) -> &[u8]
     ensures { Lexes bytes.now result.now [] }
 {
     let [first, behind @ ..] = bytes else {
@@ -232,19 +233,12 @@ pub fn boolean(bytes: &[u8]) -> Option<(bool, &[u8])>
 }
 
 /// What follows the literal `null`.
+#[inline(always)]
 pub fn null(bytes: &[u8]) -> Option<&[u8]>
     ensures { IfSome result (λ rest. Lexes bytes.now rest.now (token tokens.null ∷ [])) }
 {
     let rest = after(bytes, b"null")?;
     if ends_word(rest) { Some(rest) } else { None }
-}
-
-/// A byte that stands for itself in a string, and is printable ASCII.
-#[inline(always)]
-pub fn is_plain(byte: u8) -> bool
-    ensures { result ≡ is_plain_byte byte }
-{
-    b' ' <= byte && byte <= b'~' && byte != b'"' && byte != b'\\'
 }
 
 /// What stands in a string of printable ASCII without an escape, and what follows the string.
@@ -254,13 +248,7 @@ pub fn string(bytes: &[u8]) -> Option<(&[u8], &[u8])>
         × IsQuoted found.0.now bytes.now found.1.now) }
 {
     let inside = after_byte(bytes, b'"')?;
-    let mut i = 0;
-    while i < inside.len() {
-        if !is_plain(inside[i]) {
-            break;
-        }
-        i += 1;
-    }
-    let rest = after_byte(&inside[i..], b'"')?;
-    Some((&inside[..i], rest))
+    let end = plain_end(inside, 0);
+    let rest = after_byte(&inside[end..], b'"')?;
+    Some((&inside[..end], rest))
 }

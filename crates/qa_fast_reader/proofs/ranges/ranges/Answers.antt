@@ -1,4 +1,4 @@
-use Rattle.std.proofs.Common.{sym, subst}
+use Rattle.std.proofs.Common.{◌∙◌, sym, subst}
 use Rattle.std.proofs.lemmas.Option.{IfSome_then}
 use Rattle.qa_fast_reader.specs.Ranges.{Spans, FollowsRanges}
 use Rattle.qa_fast_reader.proofs.Listing.{ranges_begin, ranges_go_on, ranges_end}
@@ -7,7 +7,7 @@ use Rattle.qa_fast_reader.proofs.ranges.ranges.Goals as goal
 pub loop-i-init : goal.loop-i-init
 loop-i-init c =
     let P : Spans → Type 0 = λ spans. FollowsRanges spans c.args.bytes.now c.in_ok-rest.rest.now in
-    subst P (sym c.requires) (ranges_begin c.args.bytes.now c.in_ok-rest.rest.now c.in_ok-rest.ensures)
+    subst P (sym (c.reserve.ensures ∙ c.requires)) (ranges_begin c.args.bytes.now c.in_ok-rest.rest.now c.in_ok-rest.ensures)
 
 pub loop-i-preserved : goal.loop-i-preserved
 loop-i-preserved c =

@@ -5,8 +5,8 @@ use Rattle.qa_fast_reader.proofs.Finding.{put_event}
 use Rattle.qa_fast_reader.proofs.Spelling.{line_kind_is_plain}
 use Rattle.qa_fast_reader.proofs.found.Found.event.Goals as goal
 
-pub returns : goal.returns
-returns c =
+pub returns-clause-found : goal.returns-clause-found
+returns-clause-found c =
     let kind = c.in_ok-kind.kind in record {
       value = line_kind_data kind;
       is = string_value (line_kind_name kind) c.args.bytes.now c.in_ok-kind.rest.now (line_kind_is_plain kind) c.in_ok-kind.ensures;

@@ -5,8 +5,8 @@ use Rattle.qa_fast_reader.proofs.Finding.{put_permission}
 use Rattle.qa_fast_reader.proofs.Spelling.{permission_is_plain}
 use Rattle.qa_fast_reader.proofs.found.Found.permission.Goals as goal
 
-pub returns : goal.returns
-returns c =
+pub returns-clause-found : goal.returns-clause-found
+returns-clause-found c =
     let found = c.in_ok-found.found in record {
       value = permission_data found;
       is = string_value (permission_name found) c.args.bytes.now c.in_ok-found.rest.now (permission_is_plain found) c.in_ok-found.ensures;

@@ -11,5 +11,5 @@ put_so : (f : Found) (t : Option ℕ) (x : ℕ) → t ≡ Some x → Keeps (code
 put_so f t x is = subst (λ (u : Option ℕ). Keeps (codes "time") (integer x) f (record f { time = u })) (sym is) (put_time f x)
 
 -- The search is written out, so that a wrong body is refused at it.
-pub returns : goal.returns
-returns c = let n = c.in_ok-value.value in record { value = integer n; is = integer_value n c.args.bytes.now c.in_ok-value.rest.now c.in_ok-value.ensures.0 c.in_ok-value.ensures.1; keeps = put_so _ _ n (search rules) }
+pub returns-clause-found : goal.returns-clause-found
+returns-clause-found c = let n = c.in_ok-value.value in record { value = integer n; is = integer_value n c.args.bytes.now c.in_ok-value.rest.now c.in_ok-value.ensures.0 c.in_ok-value.ensures.1; keeps = put_so _ _ n (search rules) }
