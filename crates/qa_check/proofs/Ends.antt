@@ -7,14 +7,14 @@ use Rattle.std.specs.Io.KnownBytes.{Consumes, IsAtEnd}
 use Rattle.qa_check.specs.Audit.{IsReadNoFurtherBy}
 use Rattle.qa_base.specs.machine.Packets.{history_of}
 use Rattle.qa_check.proofs.Following.{Taken, taken_last, taken_open}
-use Rattle.qa_check.proofs.Judged.{Place, holds_of_good, lines_of_good, place_at_end, place_at_line, undecided_of_good}
+use Rattle.qa_check.proofs.Judged.{Place, good_begin, holds_of_good, lines_of_good, place_at_end, place_at_line, undecided_of_good}
 use Rattle.qa_check.specs.declared.taking.Halt.{Halt}
 use Rattle.qa_check.specs.declared.taking.Halt.TheVariants.{OutOfMemory, Visitor}
 use Rattle.qa_check.specs.declared.taking.LastLine.{LastLine}
 use Rattle.qa_check.specs.Places.{good_lines}
 use Rattle.qa_check.specs.Standing.{AddsBad, Held, HoldsRun, Judges, StandsFor, by}
 use Rattle.qa_check.specs.Taking.{IsHanded, TakesBad}
-use Rattle.qa_check.specs.Walking.{Covered, Ends, HaltsAt, HaltsIn, HandsOut, HoldsGood, IsLine, VisitsGood, Walked, WalksInto, fault_by}
+use Rattle.qa_check.specs.Walking.{Covered, Ends, HaltsAt, HaltsIn, HaltsWithin, HandsOut, HoldsGood, IsLine, VisitsGood, Walked, WalksInto, fault_by}
 use Rattle.qa_format.proofs.verdicts.Cuts.{Cut, cut_ended, cut_without_lf, ended_snoc, first_line, first_line_is_long, lines_at_end, lines_at_lf, short_snoc}
 use Rattle.qa_format.proofs.verdicts.Fixed.{fixed_by_length, fixed_by_line}
 use Rattle.qa_format.specs.format.Lines.{cut, ended, ended_lines, has_lf, last_line, line_limit, lines, unended, IsShortLine}
@@ -187,6 +187,23 @@ pub halts_at_end : {L V F : Type 0} (judges : Judges L) (covers : V → List (Li
 halts_at_end judges covers fails held visitor rest bytes f =
     halts_longer covers fails visitor OutOfMemory (ended_lines bytes) (last_line (unended bytes)) (lines bytes) refl (halts_open judges covers fails held visitor rest bytes f)
 
+-- the visitor was, behind what it covers of the lines that an LF ends
+pub halts_behind : {L V F : Type 0} (judges : Judges L) (covers : V → List (List ℕ) → Type 0) (fails : V → List (List ℕ) → F → Type 0) (held : Held L) (visitor visitor' : V) (halt : Halt F) (rest bytes : List ℕ)
+    → Walked judges covers rest held visitor bytes → ((ls : List (List ℕ)) → covers visitor ls → HaltsAt covers fails visitor' halt ls) → HaltsIn covers fails visitor' halt (ended_lines bytes)
+halts_behind judges covers fails held visitor visitor' halt rest bytes f halts = (f.0, ended_lines rest, ended_are f.0 rest bytes f.4 f.3, halts f.0 f.1.1)
+
+-- and behind the good lines of the bytes
+pub halts_at_good : {V F : Type 0} (judging : Judging) (covers : V → List (List ℕ) → Type 0) (fails : V → List (List ℕ) → F → Type 0) (visitor : V) (halt : Halt F) (bytes : List ℕ)
+    → HaltsAt covers fails visitor halt (good_lines judging bytes) → HaltsIn covers fails visitor halt (lines bytes)
+halts_at_good judging covers fails visitor halt bytes at =
+    let begin = good_begin judging bytes in
+    (good_lines judging bytes, begin.0, begin.1, at)
+
+-- what was walked over a visitor that covers as much as another
+pub walked_by : {L V : Type 0} (judges : Judges L) (covers : V → List (List ℕ) → Type 0) (held : Held L) (visitor visitor' : V) (rest bytes : List ℕ) → ((ls : List (List ℕ)) → covers visitor ls → covers visitor' ls)
+    → Walked judges covers rest held visitor bytes → Walked judges covers rest held visitor' bytes
+walked_by judges covers held visitor visitor' rest bytes more f = (f.0, (f.1.0, more f.0 f.1.1), f.2, f.3, f.4)
+
 -- ---- what is left of a walk
 
 -- where no line stands in the rest, the visitor covers the lines that an LF ends
@@ -205,3 +222,10 @@ walks_halted judging covers fails old new visitor OutOfMemory bytes all consumes
     (bytes, consumes, further, h.0, h.1, h.3, elim place [ inl ended ↦ inl (ended ∙ h.2) | inr whole ↦ inr (whole.0, whole.1 ∙ h.2) ])
 walks_halted judging covers fails old new visitor (Visitor f) bytes all consumes further h place =
     (bytes, consumes, further, h.0, h.1, h.3, elim place [ inl ended ↦ inl (ended ∙ h.2) | inr whole ↦ inr (whole.0, whole.1 ∙ h.2) ])
+
+pub walks_halted_within : {V F : Type 0} {last : ℕ} (judging : Judging) (covers : V → List (List ℕ) → Type 0) (fails : V → List (List ℕ) → F → Type 0) (old new : Option (List ℕ)) (visitor : V) (halt : Halt F) (bytes : List ℕ)
+    → Consumes old new bytes → IsReadNoFurtherBy judging last bytes → HaltsWithin judging covers fails visitor halt bytes → WalksInto judging covers fails old new last visitor (fault_by halt)
+walks_halted_within judging covers fails old new visitor halt bytes consumes further within = elim within [
+  | inl among ↦ walks_halted judging covers fails old new visitor halt bytes (ended_lines bytes) consumes further among (inl refl)
+  | inr all ↦ walks_halted judging covers fails old new visitor halt bytes (lines bytes) consumes further all.1 (inr (inr all.0, refl))
+]

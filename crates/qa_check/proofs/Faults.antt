@@ -1,5 +1,5 @@
 -- What a fault or a stop says, whichever result it is in.
-use Rattle.std.proofs.Common.{◌≡◌, false, Result, Ok, Err, refl}
+use Rattle.std.proofs.Common.{◌≡◌, false, Result, Ok, Err, IfOk, IfErr, OnOk, refl}
 use Rattle.qa_check.specs.Audit.{is_read_fault, is_write_fault}
 use Rattle.qa_check.specs.declared.auditing.AuditFault.{AuditFault}
 use Rattle.qa_check.specs.declared.auditing.AuditFault.TheVariants as faults
@@ -26,6 +26,16 @@ memory_is_not_decided is = cc
 
 pub decided_is_not_memory : {T : Type 0} → ◌≡◌ {A = Result T Stop} (Err Decided) (Err OutOfMemory) → ⊥
 decided_is_not_memory is = cc
+
+-- what holds of an error holds of it in other words
+pub if_err_weaker : {T E : Type 0} (r : Result T E) (P Q : E → Type 0) → ((e : E) → P e → Q e) → IfErr r P → IfErr r Q
+if_err_weaker (Ok x) P Q more p = tt
+if_err_weaker (Err e) P Q more p = more e p
+
+-- what holds of a value, and of it alone
+pub if_ok_is : {T E : Type 0} (r : Result T E) (value : T) (P : Type 0) (Q : T → Type 0) → IfOk r (λ x. x ≡ value) → OnOk r P → (P → Q value) → IfOk r Q
+if_ok_is (Ok x) value P Q is p holds = rw is (holds p)
+if_ok_is (Err e) value P Q is p holds = tt
 
 -- ---- faults
 

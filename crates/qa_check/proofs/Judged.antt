@@ -1,5 +1,6 @@
 -- At which line lines are judged, of bytes and of bytes that are put behind others.
 use Rattle.std.proofs.Common.{◌≡◌, ◌∙◌, ◌<◌, inl, inr, ℕ, List, [], ◌∷◌, ◌++◌, length, true, cond, Option, Some, None, append_assoc, is_some, refl, sym, ap, arith}
+use Rattle.std.proofs.lemmas.Bool.{cases_Bool}
 use Rattle.std.proofs.lemmas.List.{append-nil}
 use Rattle.std.specs.Option.{option_or}
 use Rattle.std.specs.Prelude.{IsSome}
@@ -103,6 +104,19 @@ good_at_line judging bytes ls more l good bad are = ap (λ (p : Place). p.0) (pl
 -- and of bytes in which all are
 pub good_at_end : (judging : Judging) (bytes : List ℕ) (ls : List (List ℕ)) → AreGood judging ls → lines bytes ≡ ls → good_lines judging bytes ≡ ls
 good_at_end judging bytes ls good are = ap (λ (p : Place). p.0) (place_at_end judging bytes ls good are)
+
+-- the good lines come first
+judged_begin : (judging : Judging) (before ls : List (List ℕ)) → (more : List (List ℕ)) × (before ++ ls ≡ (judged_at judging before ls).0 ++ more)
+judged_begin judging before [] = ([], refl)
+judged_begin judging before (l ∷ ls) = elim (cases_Bool (is_some (stop_after judging before l))) [
+  | inl bad ↦ rw bad (l ∷ ls, refl)
+  | inr good ↦
+    let rest = judged_begin judging (before ++ l ∷ []) ls in
+    rw good (rest.0, sym (append_assoc before (l ∷ []) ls) ∙ rest.1)
+]
+
+pub good_begin : (judging : Judging) (bytes : List ℕ) → (more : List (List ℕ)) × (lines bytes ≡ good_lines judging bytes ++ more)
+good_begin judging bytes = judged_begin judging [] (lines bytes)
 
 -- ---- good lines behind those that fix the verdict
 

@@ -71,9 +71,3 @@ is_read_fault _ = false
 abbrev pub is_write_fault : {A : Type 0} → Result A AuditFault → Bool
 is_write_fault (Err faults.Write) = true
 is_write_fault _ = false
-
--- the count of failures of a writer is now that after a call with this result, in which no reader
--- failed
-abbrev pub CountsFailure : {A : Type 0} → ℕ → ℕ → Result A AuditFault → Type 0
-CountsFailure old new result =
-    (is_read_fault result ≡ false) × (new ≡ failures_after (is_write_fault result) old)

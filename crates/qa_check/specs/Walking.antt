@@ -54,6 +54,14 @@ HaltsIn covers fails visitor halt all =
     (ls : List (List ℕ)) × (more : List (List ℕ)) × (all ≡ ls ++ more)
     × HaltsAt covers fails visitor halt ls
 
+-- at one of the lines that an LF ends in the bytes; or behind good lines of them, where they fix
+-- the verdict
+abbrev pub HaltsWithin : {V F : Type 0} → Judging → (V → List (List ℕ) → Type 0)
+    → (V → List (List ℕ) → F → Type 0) → V → Halt F → List ℕ → Type 0
+HaltsWithin judging covers fails visitor halt bytes =
+    HaltsIn covers fails visitor halt (ended_lines bytes)
+    ⊎ (IsFixed judging bytes × HaltsIn covers fails visitor halt (lines bytes))
+
 -- ---- where it ends
 
 -- a line is handed out as it stands behind n others, and with it what was read of it

@@ -16,6 +16,11 @@ abbrev pub Begins : Option (List ℕ) → Option (List ℕ) → List ℕ → Typ
 Begins held held' text =
     (front : List ℕ) × (rest : List ℕ) × (text ≡ front ++ rest) × Appends held held' front
 
+-- all of it was, but for this rest
+abbrev pub WritesBut : Option (List ℕ) → Option (List ℕ) → List ℕ → List ℕ → Type 0
+WritesBut held held' rest text =
+    (front : List ℕ) × (text ≡ front ++ rest) × Appends held held' front
+
 -- what explains the bytes was written, and the kind of their verdict is returned
 abbrev pub Explains : Option (List ℕ) → Option (List ℕ) → Outcome → List ℕ → Type 0
 Explains held held' outcome bytes =

@@ -24,6 +24,9 @@ pub trait Visitor<J: Judge> {
     // these good lines.
     ghost fails: { Self → Self → List (List ℕ) → Self.Fault → Type 0 };
 
+    // It keeps nothing back of what it makes of the lines that it covers.
+    ghost is_flushed: { Self → Type 0 };
+
     /// Whether it looks at lines. One that does not is shown none, and covers them all.
     fn looks(&self) -> bool
         ensures { result ≡ false → (begun : Self) (ls : List (List ℕ)) (l : List ℕ)
@@ -51,6 +54,16 @@ pub trait Visitor<J: Judge> {
             (λ fault. (begun : Self) (ls : List (List ℕ)) → covers begun self.old ls
             → ComesAfter J.judges n (option_copied judge.entry) ls line.now
             → fails begun self.new (ls ++ line.now ∷ []) fault) };
+
+    /// Passes on what it keeps back, which is asked of it before more is read, and at the end.
+    ///
+    /// After a fault the visitor is not to be shown another line.
+    fn flush(&mut self) -> Result<(), Self::Fault>
+        ensures flushed { OnOk result (is_flushed self.new) }
+        ensures ok { OnOk result ((begun : Self) (ls : List (List ℕ))
+            → covers begun self.old ls → covers begun self.new ls) }
+        ensures fault { IfErr result (λ fault. (begun : Self) (ls : List (List ℕ))
+            → covers begun self.old ls → fails begun self.new ls fault) };
 }
 
 /// Nobody: no line is shown.
@@ -64,6 +77,8 @@ impl<J: Judge> Visitor<J> for Unvisited {
 
     ghost fails = { λ begun now ls fault. Unit {0} };
 
+    ghost is_flushed = { λ now. Unit {0} };
+
     fn looks(&self) -> bool {
         false
     }
@@ -75,6 +90,10 @@ impl<J: Judge> Visitor<J> for Unvisited {
         _said: &Line,
         _judge: Option<&J>,
     ) -> Result<(), AllocError> {
+        Ok(())
+    }
+
+    fn flush(&mut self) -> Result<(), AllocError> {
         Ok(())
     }
 }
@@ -95,6 +114,8 @@ impl<J: Judge, A: Visitor<J, Fault = AllocError>, B: Visitor<J, Fault = AllocErr
 
     ghost fails = { λ begun now ls fault. Unit {0} };
 
+    ghost is_flushed = { λ now. A.is_flushed now.first × B.is_flushed now.second };
+
     fn looks(&self) -> bool {
         self.first.looks() || self.second.looks()
     }
@@ -108,5 +129,10 @@ impl<J: Judge, A: Visitor<J, Fault = AllocError>, B: Visitor<J, Fault = AllocErr
     ) -> Result<(), AllocError> {
         self.first.visit(n, line, said, judge)?;
         self.second.visit(n, line, said, judge)
+    }
+
+    fn flush(&mut self) -> Result<(), AllocError> {
+        self.first.flush()?;
+        self.second.flush()
     }
 }

@@ -85,6 +85,8 @@ impl<'n, 'm, J: Judge, N: Notes<J>> Visitor<J> for Noting<'n, 'm, N> {
     ghost fails = { λ begun now ls fault. (now.notes.ghost_name ≡ begun.notes.ghost_name)
         × (now.caveats.ghost_name ≡ begun.caveats.ghost_name) };
 
+    ghost is_flushed = { λ now. Unit {0} };
+
     fn looks(&self) -> bool {
         true
     }
@@ -98,5 +100,9 @@ impl<'n, 'm, J: Judge, N: Notes<J>> Visitor<J> for Noting<'n, 'm, N> {
     ) -> Result<(), AllocError> {
         self.caveats.note_line(n, line, said)?;
         self.notes.note(self.name, n, line, said, judge)
+    }
+
+    fn flush(&mut self) -> Result<(), AllocError> {
+        Ok(())
     }
 }

@@ -91,6 +91,21 @@ fn a_read_fails(rt: HostRuntime) {
     assert_eq!(rt; found, (Err(AuditFault::Read), 2, true));
 }
 
+/// How an explanation ends that is read at once, and how often it has written.
+fn explain_at_once(alloc: Global) -> (Result<Outcome, AuditFault>, u64) {
+    let mut reader = Metered::new(TRACE.as_bytes());
+    let mut writer = Faulty::metered(Vec::new(alloc), usize::MAX, u64::MAX);
+    let ended = explain::<Whole, _, _>(alloc, &mut reader, &mut writer);
+    (ended, writer.into_inner().calls)
+}
+
+/// The rows of what one read gives are one write, and the report is another.
+#[test]
+fn rows_are_written_at_once(rt: HostRuntime) {
+    let found = explain_at_once(rt.alloc());
+    assert_eq!(rt; found, (Ok(Outcome::Accepted), 2));
+}
+
 /// How an audit ends whose sixth write fails, how often it has written, and whether five bytes.
 fn audit_to_a_failed_write(alloc: Global) -> (Result<Outcome, AuditFault>, u64, bool) {
     let mut reader = Metered::new(TRACE.as_bytes());

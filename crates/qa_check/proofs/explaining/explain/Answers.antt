@@ -25,7 +25,7 @@ returns g c =
       told_beginning = λ bytes tells is. told_begins _ _ _ _ bytes tells (report_begun _ _ _ _ _ _ shown.verdict (written.begun is));
       beginning = λ is. report_begun _ _ _ _ _ _ shown.verdict (written.begun is);
       read_failures = rw written.read shown.read_failures;
-      write_failures = rw shown.failures at written.failures;
+      write_failures = rw shown.write_failures at written.failures;
     }
 
 pub returns-in_err-verdict-clause-beginning : goal.returns-in_err-verdict-clause-beginning

@@ -20,5 +20,5 @@ returns-in-Ok g c =
       rows = λ is. cc;
       begun = λ is. tt;
       read_failures = c.in-Ok.ensures.read_failures;
-      write_failures = c.in-Ok.ensures.failures;
+      write_failures = c.in-Ok.ensures.write_failures;
     }
