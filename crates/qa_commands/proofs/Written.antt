@@ -1,7 +1,6 @@
 -- What an audit or an explanation wrote, by its contract.
-use Rattle.std.proofs.Common.{◌≡◌, inl, inr, Bool, true, false, ℕ, List, [], ◌++◌, Option, Some, None, Result, Ok, Err, refl}
+use Rattle.std.proofs.Common.{◌≡◌, inl, inr, Bool, false, ℕ, List, [], ◌++◌, Option, Some, None, Result, Ok, Err, refl}
 use Rattle.std.specs.Borrow.{Bor}
-use Rattle.std.specs.Io.KnownBytes.{Appends}
 use Rattle.qa_format.specs.verdicts.Verdict.{strict}
 use Rattle.qa_format.specs.format.Lines.{ended_lines, unended, last_line}
 use Rattle.qa_format.specs.format.Reading.{reading}
@@ -15,7 +14,7 @@ use Rattle.qa_check.specs.Failures.{failures_after}
 use Rattle.qa_check.specs.Writing as writing
 use Rattle.qa_check.specs.Writing.{Begins, BeginsRead, ShowsRead, told_ended}
 use Rattle.qa_check.proofs.Writing.{begins_longer}
-use Rattle.qa_commands.specs.Checking.{AreOf, Audited, Checks, heading, stops}
+use Rattle.qa_commands.specs.Checking.{AreOf, Audited, Checks, stops}
 use Rattle.qa_commands.specs.Ending.{failure_of}
 use Rattle.qa_commands.specs.Explaining.{Explained}
 use Rattle.qa_commands.specs.declared.ending.Failure.{Failure}

@@ -1,5 +1,6 @@
 //! The subcommand `check`.
-ghost use Rattle.std.specs.Prelude.{◌≡◌, ◌⊎◌, [], ℕ, List, Some, Result, IfOk, OnOk, IfErr, is_err};
+ghost use Rattle.std.specs.Prelude.{◌≡◌, ◌≢◌, ◌⊎◌, [], ℕ, List, Some, Result, Err, IfOk, OnOk, IfErr};
+ghost use Rattle.std.specs.Prelude.{is_err};
 ghost use Rattle.std.specs.Prelude.{length, nat_lt, true};
 ghost use Rattle.std.specs.Borrow.{Bor};
 ghost use Rattle.std.specs.Io.KnownBytes.{Appends};
@@ -8,7 +9,7 @@ ghost use Rattle.qa_check.specs.Failures.{failures_after};
 ghost use Rattle.qa_check.specs.Writing.{Begins};
 ghost use Rattle.qa_commands.specs.Checking as checking;
 ghost use Rattle.qa_commands.specs.Checking.{Audited, Checks, ChecksAll, ReportsFile};
-ghost use Rattle.qa_commands.specs.Checking.{any_stops, heading};
+ghost use Rattle.qa_commands.specs.Checking.{any_stops, heading, unreported_by};
 ghost use Rattle.qa_commands.specs.Commands.{ChecksFiles};
 ghost use Rattle.qa_commands.specs.Ending.{Ends};
 
@@ -121,6 +122,7 @@ fn check_one_of_several<'a, I: Source, O: Sink>(
     output: &mut O,
 ) -> Result<Outcome, Failure<'a>>
     ensures written { Checks true name.entry result (O.held output.old) (O.held output.new) }
+    ensures opened { result ≢ Err (Failure.Open name.entry) }
     ensures failures { O.write_failures output.new
         ≡ failures_after (checking.stops result) (O.write_failures output.old) }
 {
@@ -158,6 +160,7 @@ fn write_page<'a, O: Sink>(
 ) -> Result<Outcome, Failure<'a>>
     ensures written { (name : Bor (List ℕ)) → ReportsFile name.now outcome (Some []) (Some page.now)
         → Checks true name result (O.held output.old) (O.held output.new) }
+    ensures opened { (name : Bor (List ℕ)) → result ≢ Err (Failure.Open name) }
     ensures failures { O.write_failures output.new
         ≡ failures_after (checking.stops result) (O.write_failures output.old) }
 {
@@ -169,7 +172,7 @@ fn write_page<'a, O: Sink>(
 
 /// Why there is no report on a page.
 fn unreported<'a>(fault: AuditFault, name: &'a str) -> Failure<'a>
-    ensures { (result ≡ Failure.Read (Origin.File name.entry)) ⊎ (result ≡ Failure.OutOfMemory) }
+    ensures { result ≡ unreported_by (Origin.File name.entry) fault }
 {
     match fault {
         AuditFault::Read => Failure::Read(Origin::File(name)),
