@@ -83,6 +83,15 @@ stops (Err (Read origin)) = false
 stops (Err Write) = true
 stops (Err OutOfMemory) = false
 
+-- whether a read failed
+abbrev pub is_unread : Result Outcome Failure → Bool
+is_unread (Ok outcome) = false
+is_unread (Err Arguments) = false
+is_unread (Err (Open name)) = false
+is_unread (Err (Read origin)) = true
+is_unread (Err Write) = false
+is_unread (Err OutOfMemory) = false
+
 -- whether a failed write ended one of these
 abbrev pub any_stops : List (Result Outcome Failure) → Bool
 any_stops = list_any stops

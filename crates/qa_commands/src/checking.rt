@@ -4,7 +4,7 @@ ghost use Rattle.std.specs.Prelude.{is_err};
 ghost use Rattle.std.specs.Prelude.{length, nat_lt, true};
 ghost use Rattle.std.specs.Borrow.{Bor};
 ghost use Rattle.std.specs.Io.KnownBytes.{Appends};
-ghost use Rattle.qa_check.specs.Audit.{Reads};
+ghost use Rattle.qa_check.specs.Audit.{Reads, is_read_fault};
 ghost use Rattle.qa_check.specs.Failures.{failures_after};
 ghost use Rattle.qa_check.specs.Writing.{Begins};
 ghost use Rattle.qa_commands.specs.Checking as checking;
@@ -123,6 +123,8 @@ fn check_one_of_several<'a, I: Source, O: Sink>(
 ) -> Result<Outcome, Failure<'a>>
     ensures written { Checks true name.entry result (O.held output.old) (O.held output.new) }
     ensures opened { result ≢ Err (Failure.Open name.entry) }
+    ensures read_failures { (result ≡ Err Failure.Write) ⊎ (I.read_failures input.new
+        ≡ failures_after (checking.is_unread result) (I.read_failures input.old)) }
     ensures failures { O.write_failures output.new
         ≡ failures_after (checking.stops result) (O.write_failures output.old) }
 {
@@ -144,10 +146,14 @@ fn audit_on_page<I: Source, P: Sink>(
     input: &mut I,
     page: &mut P,
 ) -> Result<Outcome, AuditFault>
-    ensures { IfOk result
+    ensures told { IfOk result
         (λ outcome. ReportsFile name.now outcome (P.held page.old) (P.held page.new)) }
+    ensures read_failures { I.read_failures input.new
+        ≡ failures_after (is_read_fault result) (I.read_failures input.old) }
 {
-    write_line("file ", name, page)?;
+    let Ok(()) = write_line("file ", name, page) else {
+        return Err(AuditFault::Write);
+    };
     let outcome = audit::<Running, I, P>(alloc, input, page)?;
     Ok(outcome)
 }
@@ -160,7 +166,7 @@ fn write_page<'a, O: Sink>(
 ) -> Result<Outcome, Failure<'a>>
     ensures written { (name : Bor (List ℕ)) → ReportsFile name.now outcome (Some []) (Some page.now)
         → Checks true name result (O.held output.old) (O.held output.new) }
-    ensures opened { (name : Bor (List ℕ)) → result ≢ Err (Failure.Open name) }
+    ensures err { IfErr result (λ failure. failure ≡ Failure.Write) }
     ensures failures { O.write_failures output.new
         ≡ failures_after (checking.stops result) (O.write_failures output.old) }
 {
@@ -204,6 +210,8 @@ fn audited<'a, I: Source, O: Sink>(
     ensures written { Audited (I.left input.old) origin.entry result (O.held output.old)
         (O.held output.new) }
     ensures reads { Reads (I.left input.old) (I.left input.new) (I.last_read input.new) }
+    ensures read_failures { I.read_failures input.new
+        ≡ failures_after (checking.is_unread result) (I.read_failures input.old) }
     ensures failures { O.write_failures output.new
         ≡ failures_after (checking.stops result) (O.write_failures output.old) }
 {
