@@ -32,6 +32,8 @@ LITTLE_OF_PYTHON = 150_000
 GIBIBYTE = 1 << 30
 OPEN_FILES, MOST_OPEN = 1_000, 1_100
 MANY_FILES, FEW_OPEN = 1_000, 64
+# Of a program that is not in Python, which takes them in a second.
+VERY_MANY_FILES = 20_000
 # How often a program is stopped and goes on while it reads.
 STOPS = 20
 NO_LOG = "byte 0: neither JSON-SEQ nor a JSON text a line nor one JSON object"
@@ -52,10 +54,17 @@ class Program(NamedTuple):
     reads_input: bool = True
     takes_several: bool = False
     is_python: bool = True
+    # What it writes before the text of one of several files, and behind those of so many good ones.
+    before_each: str = ""
+    behind_all: str = ""
 
     def says(self, text: str) -> bytes:
         """A line on standard error."""
         return f"{self.name}: {text}\n".encode() if text else b""
+
+    def of_files(self, usual: bytes, count: int) -> bytes:
+        """What it writes of so many files, if it writes this of one alone."""
+        return (self.before_each.encode() + usual) * count + self.behind_all.format(count).encode()
 
 
 class Case(NamedTuple):
@@ -94,11 +103,13 @@ def programs(qaudit: str, why: str, folder: Path) -> list[Program]:
             *("qaudit", [qaudit, "check"], TRACE_NAME, "write fault", "cannot open none", (2, "")),
             takes_several=True,
             is_python=False,
+            before_each=f"file {TRACE_NAME}\n",
         ),
         Program(
             *("qaudit-why", [why], TRACE_NAME, fault, "cannot open none", (2, "")),
             takes_several=True,
             is_python=False,
+            behind_all="{0} traces: {0} accepted, 0 refused, 0 unreadable\n",
         ),
         Program(
             *("qaudit-page", [python, str(page / "qaudit-page"), *options], TRACE_NAME),
@@ -153,6 +164,8 @@ class Tries(NamedTuple):
         status, says = self.program.zeros
         for name, path in (("zeros-without-end", "/dev/zero"), ("sparse-file", "sparse")):
             yield Case(name, path, status, self.program.says(says.replace("/dev/zero", path)))
+            if self.program.takes_several and not self.program.is_python:
+                yield Case(f"{name}-among-several", f"{self.program.input} {path}", status)
         make = f"rm -f fifo; mkfifo fifo; {{ cat {self.program.input} > fifo & }}"
         yield Case("fifo", "fifo", 0, b"", before=make)
         if self.program.reads_input:
@@ -166,8 +179,12 @@ class Tries(NamedTuple):
         limit = f"ulimit -n {MOST_OPEN}; {opened}"
         yield Case("many-open-files", given, 0, b"", usual, before=limit)
         if self.program.takes_several:
-            names = " ".join([given] * MANY_FILES)
-            yield Case("many-files", names, 0, b"", before=f"ulimit -n {FEW_OPEN}")
+            is_python = self.program.is_python
+            count = MANY_FILES if is_python else VERY_MANY_FILES
+            written = None if is_python else self.program.of_files(usual, count)
+            # A word of a command has no more than 128 KiB, which the names have together.
+            names = f"$(printf '{given} %.0s' {{1..{count}}})"
+            yield Case("many-files", names, 0, b"", written, before=f"ulimit -n {FEW_OPEN}")
         if self.program.is_python:
             # Python itself does not start, and says so in its own words.
             yield Case("little-memory", given, None, None, b"", LITTLE)

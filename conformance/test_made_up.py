@@ -180,6 +180,12 @@ class MadeUpTest(unittest.TestCase):
         )
         self.assert_admit_makes("let kind = ErrorKind::Other;", "let kind = ErrorKind::Other")
 
+    def test_answer_to_c_that_nothing_was_taken(self) -> None:
+        self.assert_admit_makes(
+            "if 4_096 < ranges.len() { return refusal(session, NOT_TAKEN); }",
+            "if 4_096 < ranges.len() { return refusal(session, NOT_TAKEN)",
+        )
+
     def test_error_of_a_constant(self) -> None:
         self.write_changed("impl<A", "pub const MADE: AllocError = AllocError;\n\nimpl<A")
         self.assert_made(("", "pub const MADE: AllocError = AllocError"))

@@ -19,7 +19,7 @@ def end(status, text=""):
 words = sys.argv[1:]
 if words and words[0].startswith("--"):
     end(64)
-data = b""
+data = bytearray()
 for word in words or ["/dev/stdin"]:
     try:
         place = os.open(word, os.O_RDONLY)
@@ -27,13 +27,14 @@ for word in words or ["/dev/stdin"]:
         end(3, f"cannot open {word}")
     while piece := os.read(place, 1000):
         data += piece
-        if b"\\0" in data:
+        if b"\\0" in piece:
             os.write(1, b"zeros")
             end(2)
     os.close(place)
 try:
-    while data:
-        data = data[os.write(1, data):]
+    left = memoryview(data)
+    while left:
+        left = left[os.write(1, left):]
 except OSError:
     end(3, "write fault")
 end(0)
@@ -59,9 +60,15 @@ WRONG = {
         "full-errors-and-wrong-arguments",
     },
     ("            end(2)\n", "            end(1)\n"): {"zeros-without-end", "sparse-file"},
+    ("os.read(place, 1000)", "os.read(place, 1 << (10 if len(words) < 2 else 33))"): {
+        "zeros-without-end-among-several",
+        "sparse-file-among-several",
+        "many-files",
+    },
     ("    os.close(place)\n", ""): {"many-files"},
+    ("for word in words or", "for word in words[:12_000] or"): {"many-files"},
     ("while piece :=", "if piece :="): {"interrupted-calls"},
-    ("data = b\"\"", "data = b\"\" if len(os.listdir('/proc/self/fd')) < 900 else b'x'"): {
+    ("bytearray()", "bytearray(b'' if len(os.listdir('/proc/self/fd')) < 900 else b'x')"): {
         "many-open-files",
     },
 }

@@ -1,7 +1,6 @@
 -- What an audit or an explanation wrote, by its contract.
-use Rattle.std.proofs.Common.{◌≡◌, inl, inr, Bool, true, false, ℕ, List, [], ◌++◌, Option, Some, None, Result, Ok, Err, refl}
+use Rattle.std.proofs.Common.{◌≡◌, inl, inr, Bool, false, ℕ, List, [], ◌++◌, Option, Some, None, Result, Ok, Err, refl}
 use Rattle.std.specs.Borrow.{Bor}
-use Rattle.std.specs.Io.KnownBytes.{Appends}
 use Rattle.qa_format.specs.verdicts.Verdict.{strict}
 use Rattle.qa_format.specs.format.Lines.{ended_lines, unended, last_line}
 use Rattle.qa_format.specs.format.Reading.{reading}
@@ -10,12 +9,12 @@ use Rattle.qa_format.proofs.verdicts.Rows.{told_begin, explanation_begins}
 use Rattle.qa_check.specs.declared.auditing.Outcome.{Outcome}
 use Rattle.qa_check.specs.declared.auditing.AuditFault.{AuditFault}
 use Rattle.qa_check.specs.declared.auditing.AuditFault.TheVariants as faults
-use Rattle.qa_check.specs.Audit.{Reports, BeginsReport, ReadsEnough, is_write_fault}
+use Rattle.qa_check.specs.Audit.{Reports, BeginsReport, ReadsEnough, is_read_fault, is_write_fault}
 use Rattle.qa_check.specs.Failures.{failures_after}
 use Rattle.qa_check.specs.Writing as writing
 use Rattle.qa_check.specs.Writing.{Begins, BeginsRead, ShowsRead, told_ended}
 use Rattle.qa_check.proofs.Writing.{begins_longer}
-use Rattle.qa_commands.specs.Checking.{AreOf, Audited, Checks, heading, stops}
+use Rattle.qa_commands.specs.Checking.{AreOf, Audited, Checks, is_unread, stops}
 use Rattle.qa_commands.specs.Ending.{failure_of}
 use Rattle.qa_commands.specs.Explaining.{Explained}
 use Rattle.qa_commands.specs.declared.ending.Failure.{Failure}
@@ -29,12 +28,18 @@ of_told : (P : List ℕ → Type 0) (left : Option (List ℕ)) → ((bytes : Lis
 of_told P None told bytes p = (bytes, tt, p)
 of_told P (Some all) told bytes p = (all, refl, told all refl)
 
--- the count of failures by the failure that is told
+-- the counts of failures by the failure that is told
 pub stop_counted : (origin : Origin) (fault : AuditFault) (failure : Failure) (n n' : ℕ) → failure ≡ failure_of origin fault
     → n' ≡ failures_after (is_write_fault {A = Outcome} (Err fault)) n → n' ≡ failures_after (stops (Err failure)) n
 stop_counted origin faults.Read failure n n' is count = rw is count
 stop_counted origin faults.Write failure n n' is count = rw is count
 stop_counted origin faults.OutOfMemory failure n n' is count = rw is count
+
+pub read_counted : (origin : Origin) (fault : AuditFault) (failure : Failure) (n n' : ℕ) → failure ≡ failure_of origin fault
+    → n' ≡ failures_after (is_read_fault {A = Outcome} (Err fault)) n → n' ≡ failures_after (is_unread (Err failure)) n
+read_counted origin faults.Read failure n n' is count = rw is count
+read_counted origin faults.Write failure n n' is count = rw is count
+read_counted origin faults.OutOfMemory failure n n' is count = rw is count
 
 -- ---- an audit
 

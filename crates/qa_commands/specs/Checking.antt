@@ -6,6 +6,8 @@ use Rattle.std.specs.List.{list_any}
 use Rattle.std.specs.Io.KnownBytes.{Appends}
 use Rattle.qa_check.specs.Audit.{Reports, BeginsReport}
 use Rattle.qa_check.specs.Writing.{Begins}
+use Rattle.qa_check.specs.declared.auditing.AuditFault.{AuditFault}
+use Rattle.qa_check.specs.declared.auditing.AuditFault.TheVariants as faults
 use Rattle.qa_check.specs.declared.auditing.Outcome.{Outcome}
 use Rattle.qa_commands.specs.Names.{line_with}
 use Rattle.qa_commands.specs.declared.ending.Failure.{Failure}
@@ -47,6 +49,13 @@ ReportsFile name outcome old new =
     (middle : Option (List ℕ)) × Headed true name old middle
     × (bytes : List ℕ) × Reports middle new outcome bytes
 
+-- the failure of one of several files of which there is no report on a page: there a failed write
+-- is want of memory
+abbrev pub unreported_by : Origin → AuditFault → Failure
+unreported_by origin faults.Read = Read origin
+unreported_by origin faults.Write = OutOfMemory
+unreported_by origin faults.OutOfMemory = OutOfMemory
+
 -- what was written where no audit of a file began
 abbrev pub Unaudited : Bor (List ℕ) → Result Outcome Failure → Option (List ℕ) → Option (List ℕ)
     → Type 0
@@ -73,6 +82,15 @@ stops (Err (Open name)) = false
 stops (Err (Read origin)) = false
 stops (Err Write) = true
 stops (Err OutOfMemory) = false
+
+-- whether a read failed
+abbrev pub is_unread : Result Outcome Failure → Bool
+is_unread (Ok outcome) = false
+is_unread (Err Arguments) = false
+is_unread (Err (Open name)) = false
+is_unread (Err (Read origin)) = true
+is_unread (Err Write) = false
+is_unread (Err OutOfMemory) = false
 
 -- whether a failed write ended one of these
 abbrev pub any_stops : List (Result Outcome Failure) → Bool

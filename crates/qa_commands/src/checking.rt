@@ -1,14 +1,15 @@
 //! The subcommand `check`.
-ghost use Rattle.std.specs.Prelude.{◌≡◌, ◌⊎◌, [], ℕ, List, Some, Result, IfOk, OnOk, IfErr, is_err};
+ghost use Rattle.std.specs.Prelude.{◌≡◌, ◌≢◌, ◌⊎◌, [], ℕ, List, Some, Result, Err, IfOk, OnOk, IfErr};
+ghost use Rattle.std.specs.Prelude.{is_err};
 ghost use Rattle.std.specs.Prelude.{length, nat_lt, true};
 ghost use Rattle.std.specs.Borrow.{Bor};
 ghost use Rattle.std.specs.Io.KnownBytes.{Appends};
-ghost use Rattle.qa_check.specs.Audit.{Reads};
+ghost use Rattle.qa_check.specs.Audit.{Reads, is_read_fault};
 ghost use Rattle.qa_check.specs.Failures.{failures_after};
 ghost use Rattle.qa_check.specs.Writing.{Begins};
 ghost use Rattle.qa_commands.specs.Checking as checking;
 ghost use Rattle.qa_commands.specs.Checking.{Audited, Checks, ChecksAll, ReportsFile};
-ghost use Rattle.qa_commands.specs.Checking.{any_stops, heading};
+ghost use Rattle.qa_commands.specs.Checking.{any_stops, heading, unreported_by};
 ghost use Rattle.qa_commands.specs.Commands.{ChecksFiles};
 ghost use Rattle.qa_commands.specs.Ending.{Ends};
 
@@ -121,6 +122,9 @@ fn check_one_of_several<'a, I: Source, O: Sink>(
     output: &mut O,
 ) -> Result<Outcome, Failure<'a>>
     ensures written { Checks true name.entry result (O.held output.old) (O.held output.new) }
+    ensures opened { result ≢ Err (Failure.Open name.entry) }
+    ensures read_failures { (result ≡ Err Failure.Write) ⊎ (I.read_failures input.new
+        ≡ failures_after (checking.is_unread result) (I.read_failures input.old)) }
     ensures failures { O.write_failures output.new
         ≡ failures_after (checking.stops result) (O.write_failures output.old) }
 {
@@ -142,10 +146,14 @@ fn audit_on_page<I: Source, P: Sink>(
     input: &mut I,
     page: &mut P,
 ) -> Result<Outcome, AuditFault>
-    ensures { IfOk result
+    ensures told { IfOk result
         (λ outcome. ReportsFile name.now outcome (P.held page.old) (P.held page.new)) }
+    ensures read_failures { I.read_failures input.new
+        ≡ failures_after (is_read_fault result) (I.read_failures input.old) }
 {
-    write_line("file ", name, page)?;
+    let Ok(()) = write_line("file ", name, page) else {
+        return Err(AuditFault::Write);
+    };
     let outcome = audit::<Running, I, P>(alloc, input, page)?;
     Ok(outcome)
 }
@@ -158,6 +166,7 @@ fn write_page<'a, O: Sink>(
 ) -> Result<Outcome, Failure<'a>>
     ensures written { (name : Bor (List ℕ)) → ReportsFile name.now outcome (Some []) (Some page.now)
         → Checks true name result (O.held output.old) (O.held output.new) }
+    ensures err { IfErr result (λ failure. failure ≡ Failure.Write) }
     ensures failures { O.write_failures output.new
         ≡ failures_after (checking.stops result) (O.write_failures output.old) }
 {
@@ -169,7 +178,7 @@ fn write_page<'a, O: Sink>(
 
 /// Why there is no report on a page.
 fn unreported<'a>(fault: AuditFault, name: &'a str) -> Failure<'a>
-    ensures { (result ≡ Failure.Read (Origin.File name.entry)) ⊎ (result ≡ Failure.OutOfMemory) }
+    ensures { result ≡ unreported_by (Origin.File name.entry) fault }
 {
     match fault {
         AuditFault::Read => Failure::Read(Origin::File(name)),
@@ -201,6 +210,8 @@ fn audited<'a, I: Source, O: Sink>(
     ensures written { Audited (I.left input.old) origin.entry result (O.held output.old)
         (O.held output.new) }
     ensures reads { Reads (I.left input.old) (I.left input.new) (I.last_read input.new) }
+    ensures read_failures { I.read_failures input.new
+        ≡ failures_after (checking.is_unread result) (I.read_failures input.old) }
     ensures failures { O.write_failures output.new
         ≡ failures_after (checking.stops result) (O.write_failures output.old) }
 {

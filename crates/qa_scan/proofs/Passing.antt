@@ -3,18 +3,18 @@ use Rattle.std.proofs.Common.{◌≡◌, ◌∙◌, ◌⊎◌, inl, inr, ℕ, su
 use Rattle.std.specs.Bool.{⊤}
 use Rattle.std.specs.Char.{digit_value, is_digit, encode_utf8}
 use Rattle.std.specs.List.{list_all}
-use Rattle.std.proofs.lemmas.Bool.{and_parts, or_cases, eqb-true, leb-true, ne_eqb, le-ltb, ltb-true}
+use Rattle.std.proofs.lemmas.Bool.{and_parts, or_cases, eqb-true, leb-true, ne_eqb, le-ltb}
 use Rattle.std.proofs.lemmas.List.{drop_more, drop-drop}
 use Rattle.std.proofs.lemmas.Option.{cond_some}
-use Rattle.std.proofs.lemmas.Str.{IsUtf8-append, IsUtf8-nil}
+use Rattle.std.proofs.lemmas.Str.{IsUtf8-append}
 use Rattle.json.specs.Text.{content, plain, prepend, code_unit, short_escape, is_high_surrogate, is_low_surrogate, surrogate_pair}
 use Rattle.json.specs.Token as tokens
 use Rattle.json.specs.Word.{is_operator, is_space}
 use Rattle.json.specs.Lex.{token, string_token, between, in_string, lex}
 use Rattle.qa_format.specs.format.Simple.{is_ascii}
 use Rattle.qa_format.proofs.format.Compact.{IsUtf8-is_ascii}
-use Rattle.qa_scan.specs.Lexes.{Lexes, IsString, is_plain}
-use Rattle.qa_scan.specs.Strings.{Passes, IsPart, IsUnit, IsUnitAt, is_high, is_short}
+use Rattle.qa_scan.specs.Lexes.{IsString, is_plain}
+use Rattle.qa_scan.specs.Strings.{Passes, IsPart, IsUnitAt, is_high, is_short}
 use Rattle.qa_scan.proofs.Lexing.{inside, plain_byte}
 
 -- ---- one after another
