@@ -3,7 +3,6 @@ ghost use Rattle.std.specs.Prelude.{◌≡◌, ◌≤◌, ◌+◌, ◌*◌, ◌^
 ghost use Rattle.std.specs.Prelude.{if◌then◌else◌};
 ghost use Rattle.std.specs.Option.{option_copied, option_or};
 ghost use Rattle.qa_base.specs.declared.event.Event.{Event};
-ghost use Rattle.qa_base.specs.declared.space.TimerKind.TheVariants.{Pto};
 ghost use Rattle.qa_base.specs.machine.Packets as packets;
 ghost use Rattle.qa_base.specs.machine.Timer as timers;
 ghost use Rattle.qa_base.specs.values.Settings.{Settings, granularity};
@@ -63,22 +62,17 @@ fn loss_due(
 
 // ---- probe timeouts
 
-/// A probe timeout of the space, so long after a time, and doubled for each before it. Mostly there
-/// was none, and nothing is doubled.
+/// When a probe timeout of the space is due, so long after a time, and doubled for each before it.
+/// Mostly there was none, and nothing is doubled.
 #[inline(always)]
-fn pto_from(space: Space, since: Ticks, base: u64, count: u64) -> Due
+fn pto_time(space: Space, since: Ticks, base: u64, count: u64) -> u128
     requires base { base ≤ 6000000000000000 }
-    ensures { result
-        ≡ record { kind = Pto; space = space; time = since + base * 2 ^ min count 40 } }
+    ensures { result ≡ since + base * 2 ^ min count 40 }
 {
     if count == 0 {
-        return Due {
-            kind: TimerKind::Pto,
-            space,
-            time: u128::from(since.get() + base),
-        };
+        return u128::from(since.get() + base);
     }
-    Due::probe_timeout(space, since, base, count)
+    Due::probe_timeout(space, since, base, count).time
 }
 
 /// A probe timeout of the space, so long after a time, where there is one.
@@ -87,7 +81,11 @@ fn pto_at(space: Space, since: Option<Ticks>, base: u64, count: u64) -> Option<D
     requires base { base ≤ 6000000000000000 }
     ensures { result ≡ deadlines.pto_at space since base count }
 {
-    Some(pto_from(space, since?, base, count))
+    Some(Due {
+        kind: TimerKind::Pto,
+        space,
+        time: pto_time(space, since?, base, count),
+    })
 }
 
 /// The probe timeout of the space, where an open packet of it asks for an acknowledgment.
@@ -230,10 +228,10 @@ impl Connection {
             (record { awaits = awaits; oldest = option_copied oldest.entry }) }
     {
         let largest = self.spaces.app.largest;
-        match loss_due(&self.header, self.rtt, largest, Space::App, oldest) {
-            Some(due) => Some(due),
-            None => self.app_pto(awaits),
+        if let Some(due) = loss_due(&self.header, self.rtt, largest, Space::App, oldest) {
+            return Some(due);
         }
+        self.app_pto(awaits)
     }
 
     /// What the loss detection timer is set for by the packets that are open: the first of them
