@@ -37,9 +37,6 @@ any_text bytes rest is = (string is.text, record { form = form.string is.text; r
 pub any_number : (bytes rest : List ℕ) → IsNumber bytes rest → IsSomeValue 0 bytes rest
 any_number bytes rest is = (json.number is.number, record { form = form.number is.text; reads = ap (option_map json.number) is.reads; shallow = omega arith; lexed = is.lexed })
 
-pub plain_string : (text bytes rest : List ℕ) → list_all is_plain text ≡ true → IsQuoted text bytes rest → IsString bytes rest
-plain_string text bytes rest all_plain is = record { text = text; lexed = lexes_quoted text bytes rest all_plain is }
-
 -- what nests no deeper than so nests no deeper than more
 pub value_within : (d e : ℕ) (value : Data) (bytes rest : List ℕ) → d ≤ e → IsValueWithin d value bytes rest → IsValueWithin e value bytes rest
 value_within d e value bytes rest below one = record { form = one.form; reads = one.reads; shallow = omega (arith, one.shallow, below); lexed = one.lexed }

@@ -189,6 +189,10 @@ nothing =
       };
     }
 
+-- where a kind and a time are found
+abbrev pub begun : LineKind → ℕ → Found
+begun kind time = record nothing { event = Some kind; time = Some time }
+
 -- the member before the rest was the last of those that gave what was found
 pub record Ends (f : Found) (bytes rest : List ℕ) : Type 0 where
   pub old : Found

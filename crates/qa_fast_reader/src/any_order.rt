@@ -4,7 +4,6 @@ ghost use Rattle.qa_fast_reader.specs.Found.{Follows, Reads, nothing};
 
 use crate::found::Found;
 use crate::in_order::in_order;
-use crate::keys::event_key;
 use crate::unknown::unknown_member;
 use qa_format::Line;
 use qa_scan::{begin_object, comma, end_object};
@@ -28,14 +27,26 @@ fn front(bytes: &[u8]) -> Option<&[u8]>
 {
     let mut rest = begin_object(bytes)?;
     for i in 0..u64::MAX {
-        if event_key(rest).is_some() {
-            return Some(rest);
+        if is_kind_or_time(rest) {
+            break;
         }
-        let behind = unknown_member(rest)?;
+        let Some(behind) = unknown_member(rest) else {
+            break;
+        };
         let more = comma(behind)?;
         rest = more;
     }
-    None
+    Some(rest)
+}
+
+/// Whether a look at two letters tells that the key may be the kind or the time, one of which comes
+/// first in most lines.
+#[inline(always)]
+fn is_kind_or_time(bytes: &[u8]) -> bool {
+    let [_, first, second, ..] = bytes else {
+        return false;
+    };
+    (*first == b'e' && *second == b'v') || (*first == b't' && *second == b'i')
 }
 
 /// The event that the members of an object say, from a key on, before which there is nothing that

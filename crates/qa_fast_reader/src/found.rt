@@ -163,7 +163,7 @@ impl Found {
 
     /// The kind of the event is found.
     #[inline(always)]
-    pub fn event<'a>(&mut self, bytes: &'a [u8]) -> Option<&'a [u8]>
+    fn event<'a>(&mut self, bytes: &'a [u8]) -> Option<&'a [u8]>
         ensures found { IfSome result
             (λ rest. Puts (codes "event") self.old self.new bytes.now rest.now) }
         ensures kept { IfNone result (self.new ≡ self.old) }
@@ -175,7 +175,7 @@ impl Found {
 
     /// The time is found.
     #[inline(always)]
-    pub fn time<'a>(&mut self, bytes: &'a [u8]) -> Option<&'a [u8]>
+    fn time<'a>(&mut self, bytes: &'a [u8]) -> Option<&'a [u8]>
         ensures found { IfSome result
             (λ rest. Puts (codes "time") self.old self.new bytes.now rest.now) }
         ensures kept { IfNone result (self.new ≡ self.old) }
@@ -199,7 +199,7 @@ impl Found {
 
     /// The packet number is found.
     #[inline(always)]
-    pub fn number<'a>(&mut self, bytes: &'a [u8]) -> Option<&'a [u8]>
+    fn number<'a>(&mut self, bytes: &'a [u8]) -> Option<&'a [u8]>
         ensures found { IfSome result
             (λ rest. Puts (codes "number") self.old self.new bytes.now rest.now) }
         ensures kept { IfNone result (self.new ≡ self.old) }
@@ -211,7 +211,7 @@ impl Found {
 
     /// The size of the packet is found.
     #[inline(always)]
-    pub fn size<'a>(&mut self, bytes: &'a [u8]) -> Option<&'a [u8]>
+    fn size<'a>(&mut self, bytes: &'a [u8]) -> Option<&'a [u8]>
         ensures found { IfSome result
             (λ rest. Puts (codes "size") self.old self.new bytes.now rest.now) }
         ensures kept { IfNone result (self.new ≡ self.old) }
@@ -223,7 +223,7 @@ impl Found {
 
     /// Whether the packet is ack-eliciting is found.
     #[inline(always)]
-    pub fn eliciting<'a>(&mut self, bytes: &'a [u8]) -> Option<&'a [u8]>
+    fn eliciting<'a>(&mut self, bytes: &'a [u8]) -> Option<&'a [u8]>
         ensures found { IfSome result
             (λ rest. Puts (codes "eliciting") self.old self.new bytes.now rest.now) }
         ensures kept { IfNone result (self.new ≡ self.old) }
@@ -235,7 +235,7 @@ impl Found {
 
     /// Whether the packet is in flight is found.
     #[inline(always)]
-    pub fn in_flight<'a>(&mut self, bytes: &'a [u8]) -> Option<&'a [u8]>
+    fn in_flight<'a>(&mut self, bytes: &'a [u8]) -> Option<&'a [u8]>
         ensures found { IfSome result
             (λ rest. Puts (codes "in_flight") self.old self.new bytes.now rest.now) }
         ensures kept { IfNone result (self.new ≡ self.old) }
@@ -272,7 +272,7 @@ impl Found {
 
     /// The delay of the acknowledgment is found.
     #[inline(always)]
-    pub fn delay<'a>(&mut self, bytes: &'a [u8]) -> Option<&'a [u8]>
+    fn delay<'a>(&mut self, bytes: &'a [u8]) -> Option<&'a [u8]>
         ensures found { IfSome result
             (λ rest. Puts (codes "delay") self.old self.new bytes.now rest.now) }
         ensures kept { IfNone result (self.new ≡ self.old) }
@@ -284,7 +284,7 @@ impl Found {
 
     /// Whether the sender was limited by the application is found.
     #[inline(always)]
-    pub fn app_limited<'a>(&mut self, bytes: &'a [u8]) -> Option<&'a [u8]>
+    fn app_limited<'a>(&mut self, bytes: &'a [u8]) -> Option<&'a [u8]>
         ensures found { IfSome result
             (λ rest. Puts (codes "limited") self.old self.new bytes.now rest.now) }
         ensures kept { IfNone result (self.new ≡ self.old) }

@@ -1,13 +1,15 @@
 //! Members in the order of the format, or with the time before the kind, with white space between
 //! the tokens, as Python's `json.dumps` writes it. Keys that no event has may stand behind them.
-ghost use Rattle.std.specs.Prelude.{◌≡◌, ◌∷◌, ◌++◌, [], ℕ, List, IfSome};
+ghost use Rattle.std.specs.Prelude.{◌≡◌, ◌∷◌, ◌++◌, [], ℕ, List, IfSome, codes};
 ghost use Rattle.qa_scan.specs.Lexes.{IsKey};
-ghost use Rattle.qa_fast_reader.specs.Found.{Continues, EndsIf, Follows, IsLaterKey, Reads, nothing};
+ghost use Rattle.qa_fast_reader.specs.Found.{Continues, EndsIf, Follows, IsLaterKey, PutsIf, Reads};
+ghost use Rattle.qa_fast_reader.specs.Found.{begun as begun_so, nothing};
 
 use crate::found::Found;
+use crate::names::line_kind;
 use qa_base::LineKind;
 use qa_format::Line;
-use qa_scan::{after, comma, ends_word, null, skip_space};
+use qa_scan::{after, after_byte, null, open_boolean, open_integer, skip_space};
 use std::alloc::Global;
 
 /// The value of the key, where the bytes begin with its name in quotes and a colon.
@@ -20,33 +22,86 @@ fn value_at<'a>(bytes: &'a [u8], word: &[u8]) -> Option<&'a [u8]>
     Some(skip_space(behind))
 }
 
-/// The same behind a comma, which ends the value before it.
+/// The same behind a comma.
 #[inline(always)]
 fn next_value<'a>(bytes: &'a [u8], word: &[u8]) -> Option<&'a [u8]>
     ensures { IfSome result (λ rest. (key : List ℕ) → word.now ≡ 34 ∷ (key ++ 34 ∷ 58 ∷ [])
         → IsLaterKey key bytes.now rest.now) }
 {
-    if !ends_word(bytes) {
-        return None;
+    let behind = after_byte(bytes, b',')?;
+    value_at(skip_space(behind), word)
+}
+
+/// The kind and the time, whichever comes first, and what follows them.
+#[inline(always)]
+fn kind_and_time(bytes: &[u8]) -> Option<(LineKind, u64, &[u8])>
+    ensures { IfSome result (λ found. (whole : List ℕ) → Follows nothing whole bytes.now
+        → EndsIf (begun_so found.0 found.1) whole found.2.now) }
+{
+    if let Some(value) = value_at(bytes, b"\"event\":") {
+        let (kind, rest) = line_kind(value)?;
+        let (time, rest) = open_integer(next_value(rest, b"\"time\":")?)?;
+        return Some((kind, time, rest));
     }
-    let member = comma(bytes)?;
-    value_at(member, word)
+    let (time, rest) = open_integer(value_at(bytes, b"\"time\":")?)?;
+    let (kind, rest) = line_kind(next_value(rest, b"\"event\":")?)?;
+    Some((kind, time, rest))
 }
 
 impl Found {
-    /// The kind and the time are found, whichever comes first; gives what follows them.
+    /// A kind and a time.
     #[inline(always)]
-    fn kind_and_time<'a>(&mut self, bytes: &'a [u8]) -> Option<&'a [u8]>
-        requires { self.old ≡ nothing }
-        ensures { IfSome result (λ rest. (whole : List ℕ) → Follows nothing whole bytes.now
-            → EndsIf self.new whole rest.now) }
+    fn begun(kind: LineKind, time: u64) -> Found
+        ensures { result ≡ begun_so kind time }
     {
-        if let Some(value) = value_at(bytes, b"\"event\":") {
-            let rest = self.event(value)?;
-            return self.time(next_value(rest, b"\"time\":")?);
-        }
-        let rest = self.time(value_at(bytes, b"\"time\":")?)?;
-        self.event(next_value(rest, b"\"event\":")?)
+        let mut found = Found::nothing();
+        found.event = Some(kind);
+        found.time = Some(time);
+        found
+    }
+
+    /// The packet number is found; what follows is to end it.
+    #[inline(always)]
+    fn open_number<'a>(&mut self, bytes: &'a [u8]) -> Option<&'a [u8]>
+        ensures { IfSome result
+            (λ rest. PutsIf (codes "number") self.old self.new bytes.now rest.now) }
+    {
+        let (value, rest) = open_integer(bytes)?;
+        self.number = Some(value);
+        Some(rest)
+    }
+
+    /// The size of the packet is found; what follows is to end it.
+    #[inline(always)]
+    fn open_size<'a>(&mut self, bytes: &'a [u8]) -> Option<&'a [u8]>
+        ensures { IfSome result
+            (λ rest. PutsIf (codes "size") self.old self.new bytes.now rest.now) }
+    {
+        let (value, rest) = open_integer(bytes)?;
+        self.size = Some(value);
+        Some(rest)
+    }
+
+    /// Whether the packet is ack-eliciting is found; what follows is to end it.
+    #[inline(always)]
+    fn open_eliciting<'a>(&mut self, bytes: &'a [u8]) -> Option<&'a [u8]>
+        ensures { IfSome result
+            (λ rest. PutsIf (codes "eliciting") self.old self.new bytes.now rest.now) }
+    {
+        let (value, rest) = open_boolean(bytes)?;
+        self.eliciting = Some(value);
+        Some(rest)
+    }
+
+    /// Whether the packet is in flight is found; what follows is to end it.
+    #[inline(always)]
+    fn open_in_flight<'a>(&mut self, bytes: &'a [u8]) -> Option<&'a [u8]>
+        ensures { IfSome result
+            (λ rest. PutsIf (codes "in_flight") self.old self.new bytes.now rest.now) }
+    {
+        let (value, rest) = open_boolean(bytes)?;
+        self.in_flight = Some(value);
+        Some(rest)
     }
 
     /// Why the packet was allowed to leave is found, or null there, where it comes next; gives what
@@ -78,7 +133,7 @@ impl Found {
             self.delay = None;
             return Some(rest);
         }
-        self.delay(value)
+        self.open_delay(value)
     }
 
     /// Whether the sender was limited by the application is found, or null there, where it comes
@@ -94,44 +149,50 @@ impl Found {
             self.app_limited = None;
             return Some(rest);
         }
-        self.app_limited(value)
+        self.open_limited(value)
     }
+}
 
-    /// A packet that was sent, behind its kind and time.
-    #[inline(always)]
-    fn sent_behind(&mut self, bytes: &[u8]) -> Option<Line>
-        ensures { (whole : List ℕ) → EndsIf self.old whole bytes.now → Reads whole result }
-    {
-        let rest = self.space(next_value(bytes, b"\"space\":")?)?;
-        let rest = self.number(next_value(rest, b"\"number\":")?)?;
-        let rest = self.size(next_value(rest, b"\"size\":")?)?;
-        let rest = self.eliciting(next_value(rest, b"\"eliciting\":")?)?;
-        let rest = self.in_flight(next_value(rest, b"\"in_flight\":")?)?;
-        let rest = self.permission_there(rest)?;
-        self.ended(rest)
-    }
+/// A packet that was sent at this time, from what follows its kind and time on.
+#[inline(never)]
+fn sent_behind(time: u64, bytes: &[u8]) -> Option<Line>
+    ensures { (whole : List ℕ) → EndsIf (begun_so LineKind.Sent time) whole bytes.now
+        → Reads whole result }
+{
+    let mut found = Found::begun(LineKind::Sent, time);
+    let rest = found.space(next_value(bytes, b"\"space\":")?)?;
+    let rest = found.open_number(next_value(rest, b"\"number\":")?)?;
+    let rest = found.open_size(next_value(rest, b"\"size\":")?)?;
+    let rest = found.open_eliciting(next_value(rest, b"\"eliciting\":")?)?;
+    let rest = found.open_in_flight(next_value(rest, b"\"in_flight\":")?)?;
+    let rest = found.permission_there(rest)?;
+    found.ended(rest)
+}
 
-    /// An acknowledgment, behind its kind and time.
-    #[inline(always)]
-    fn ack_behind(&mut self, alloc: Global, bytes: &[u8]) -> Option<Line>
-        ensures { (whole : List ℕ) → EndsIf self.old whole bytes.now → Reads whole result }
-    {
-        let rest = self.space(next_value(bytes, b"\"space\":")?)?;
-        let rest = self.ranges(alloc, next_value(rest, b"\"ranges\":")?)?;
-        let rest = self.delay_there(rest)?;
-        let rest = self.limited_there(rest)?;
-        self.ended(rest)
-    }
+/// An acknowledgment that came at this time, likewise.
+#[inline(never)]
+fn ack_behind(alloc: Global, time: u64, bytes: &[u8]) -> Option<Line>
+    ensures { (whole : List ℕ) → EndsIf (begun_so LineKind.Ack time) whole bytes.now
+        → Reads whole result }
+{
+    let mut found = Found::begun(LineKind::Ack, time);
+    let rest = found.space(next_value(bytes, b"\"space\":")?)?;
+    let rest = found.ranges(alloc, next_value(rest, b"\"ranges\":")?)?;
+    let rest = found.delay_there(rest)?;
+    let rest = found.limited_there(rest)?;
+    found.ended(rest)
+}
 
-    /// Packets that were declared lost, behind their kind and time.
-    #[inline(always)]
-    fn lost_behind(&mut self, alloc: Global, bytes: &[u8]) -> Option<Line>
-        ensures { (whole : List ℕ) → EndsIf self.old whole bytes.now → Reads whole result }
-    {
-        let rest = self.space(next_value(bytes, b"\"space\":")?)?;
-        let rest = self.ranges(alloc, next_value(rest, b"\"ranges\":")?)?;
-        self.ended(rest)
-    }
+/// Packets that were declared lost at this time, likewise.
+#[inline(never)]
+fn lost_behind(alloc: Global, time: u64, bytes: &[u8]) -> Option<Line>
+    ensures { (whole : List ℕ) → EndsIf (begun_so LineKind.Lost time) whole bytes.now
+        → Reads whole result }
+{
+    let mut found = Found::begun(LineKind::Lost, time);
+    let rest = found.space(next_value(bytes, b"\"space\":")?)?;
+    let rest = found.ranges(alloc, next_value(rest, b"\"ranges\":")?)?;
+    found.ended(rest)
 }
 
 /// The packet, acknowledgment or loss whose members stand in this order, from the first of them on.
@@ -139,12 +200,11 @@ impl Found {
 pub fn in_order(alloc: Global, bytes: &[u8]) -> Option<Line>
     ensures { (whole : List ℕ) → Follows nothing whole bytes.now → Reads whole result }
 {
-    let mut found = Found::nothing();
-    let rest = found.kind_and_time(bytes)?;
-    match found.event? {
-        LineKind::Sent => found.sent_behind(rest),
-        LineKind::Ack => found.ack_behind(alloc, rest),
-        LineKind::Lost => found.lost_behind(alloc, rest),
+    let (kind, time, rest) = kind_and_time(bytes)?;
+    match kind {
+        LineKind::Sent => sent_behind(time, rest),
+        LineKind::Ack => ack_behind(alloc, time, rest),
+        LineKind::Lost => lost_behind(alloc, time, rest),
         _ => None,
     }
 }

@@ -95,7 +95,7 @@ impl Found {
 
     /// The delay of the acknowledgment is found; what follows is to end it.
     #[inline(always)]
-    fn open_delay<'a>(&mut self, bytes: &'a [u8]) -> Option<&'a [u8]>
+    pub fn open_delay<'a>(&mut self, bytes: &'a [u8]) -> Option<&'a [u8]>
         ensures { IfSome result
             (λ rest. PutsIf (codes "delay") self.old self.new bytes.now rest.now) }
     {
@@ -137,7 +137,7 @@ impl Found {
 
     /// Whether the sender was limited by the application is found; what follows is to end it.
     #[inline(always)]
-    fn open_limited<'a>(&mut self, bytes: &'a [u8]) -> Option<&'a [u8]>
+    pub fn open_limited<'a>(&mut self, bytes: &'a [u8]) -> Option<&'a [u8]>
         ensures { IfSome result
             (λ rest. PutsIf (codes "limited") self.old self.new bytes.now rest.now) }
     {

@@ -5,7 +5,6 @@ ghost use Rattle.qa_fast_reader.specs.declared.found.Found.{Found};
 ghost use Rattle.qa_fast_reader.specs.Found.{Continues, TakesNothing};
 ghost use Rattle.qa_fast_reader.specs.Items.{FollowsItems, FollowsMembersWithin, IsSomeValue};
 ghost use Rattle.qa_fast_reader.specs.Items.{IsSomeMember};
-ghost use Rattle.qa_scan.specs.Lexes.{IsString};
 
 use crate::keys::is_known;
 use qa_scan::{
@@ -28,7 +27,7 @@ pub fn unknown_member(bytes: &[u8]) -> Option<&[u8]>
     any_value(colon(rest)?)
 }
 
-/// What follows a value, which mostly is no list and no object.
+/// What follows a value, which mostly is a string.
 #[inline(always)]
 fn any_value(bytes: &[u8]) -> Option<&[u8]>
     ensures { IfSome result (λ rest. IsSomeValue 126 bytes.now rest.now) }
@@ -36,10 +35,18 @@ fn any_value(bytes: &[u8]) -> Option<&[u8]>
     let [first, ..] = bytes else {
         return None;
     };
-    if *first == b'[' || *first == b'{' {
-        return value(bytes, DEEPEST);
+    if *first == b'"' {
+        return some_text(bytes);
     }
-    simple_value(bytes)
+    value(bytes, DEEPEST)
+}
+
+/// What follows a string.
+#[inline(always)]
+fn some_text(bytes: &[u8]) -> Option<&[u8]>
+    ensures { IfSome result (λ rest. IsSomeValue 0 bytes.now rest.now) }
+{
+    any_string(bytes)
 }
 
 /// What follows a comma and a member whose key no event has. It stands apart, since most lines have
@@ -143,7 +150,7 @@ fn object_end(bytes: &[u8], depth: u64) -> Option<&[u8]>
 fn member(bytes: &[u8], depth: u64) -> Option<&[u8]>
     ensures { IfSome result (λ rest. IsSomeMember depth bytes.now rest.now) }
 {
-    let behind = text(bytes)?;
+    let behind = any_string(bytes)?;
     value(colon(behind)?, depth)
 }
 
@@ -155,7 +162,7 @@ fn simple_value(bytes: &[u8]) -> Option<&[u8]>
         return None;
     };
     match *first {
-        b'"' => text(bytes),
+        b'"' => some_text(bytes),
         b't' | b'f' => {
             let (_value, rest) = boolean(bytes)?;
             Some(rest)
@@ -163,16 +170,6 @@ fn simple_value(bytes: &[u8]) -> Option<&[u8]>
         b'n' => null(bytes),
         _ => some_number(bytes),
     }
-}
-
-/// What follows a string, which mostly has no escape.
-fn text(bytes: &[u8]) -> Option<&[u8]>
-    ensures { IfSome result (λ rest. IsString bytes.now rest.now) }
-{
-    if let Some((_text, rest)) = string(bytes) {
-        return Some(rest);
-    }
-    any_string(bytes)
 }
 
 /// What follows a number, which mostly is an integer without sign.

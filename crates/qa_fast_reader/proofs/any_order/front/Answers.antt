@@ -7,4 +7,4 @@ loop-i-init c = begins c.args.bytes.now c.in_ok-rest.rest.now c.in_ok-rest.ensur
 
 pub loop-i-preserved : goal.loop-i-preserved
 loop-i-preserved c =
-    goes_on nothing nothing c.args.bytes.now c.loop-i.rest.now c.in_ok-behind.behind.now c.in_ok-more.more.now c.loop-i.invariant (c.in_ok-behind.ensures nothing) c.in_ok-more.ensures
+    goes_on nothing nothing c.args.bytes.now c.loop-i.rest.now c.in-Some.behind.now c.in_ok-more.more.now c.loop-i.invariant (c.in-Some.ensures nothing) c.in_ok-more.ensures

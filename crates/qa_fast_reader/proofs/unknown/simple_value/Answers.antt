@@ -1,11 +1,8 @@
 use Rattle.std.proofs.lemmas.Option.{IfSome_then}
 use Rattle.serde_json.specs.Data as json
 use Rattle.qa_format.specs.format.Written.{boolean}
-use Rattle.qa_fast_reader.proofs.Items.{simple_boolean, simple_null, any_text}
+use Rattle.qa_fast_reader.proofs.Items.{simple_boolean, simple_null}
 use Rattle.qa_fast_reader.proofs.unknown.simple_value.Goals as goal
-
-pub returns-in-34 : goal.returns-in-34
-returns-in-34 c = IfSome_then c.text.result c.text.ensures (λ rest is. any_text c.args.bytes.now rest.now is)
 
 pub returns-in_ok-_value-in-116 : goal.returns-in_ok-_value-in-116
 returns-in_ok-_value-in-116 c =

@@ -14,5 +14,5 @@ returns-in-Some-null c whole before =
 
 pub returns : goal.returns
 returns c =
-    IfSome_then c.delay.result c.delay.ensures.found
-    (λ rest puts whole before. later_if (codes "delay") _ _ whole c.args.bytes.now c.in-Some.value.now rest.now refl (c.in-Some.ensures (codes "delay") refl) (λ _. puts) before)
+    IfSome_then c.open_delay.result c.open_delay.ensures
+    (λ rest puts whole before. later_if (codes "delay") _ _ whole c.args.bytes.now c.in-Some.value.now rest.now refl (c.in-Some.ensures (codes "delay") refl) puts before)

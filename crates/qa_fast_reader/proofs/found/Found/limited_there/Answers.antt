@@ -14,5 +14,5 @@ returns-in-Some-null c whole before =
 
 pub returns : goal.returns
 returns c =
-    IfSome_then c.app_limited.result c.app_limited.ensures.found
-    (λ rest puts whole before. later_if (codes "limited") _ _ whole c.args.bytes.now c.in-Some.value.now rest.now refl (c.in-Some.ensures (codes "limited") refl) (λ _. puts) before)
+    IfSome_then c.open_limited.result c.open_limited.ensures
+    (λ rest puts whole before. later_if (codes "limited") _ _ whole c.args.bytes.now c.in-Some.value.now rest.now refl (c.in-Some.ensures (codes "limited") refl) puts before)
