@@ -5,8 +5,10 @@
  *     library calls          makes the calls that they say, and writes what each returns
  *     library refused N      feeds standard input in pieces of N bytes with each allocation refused in turn
  *     library orders         calls each function where it has nothing to do
- *     library many           hands in acknowledgments of very many ranges
- *     library kept           counts what the acknowledgments behind the first ask for: nothing
+ *     library many           hands in events of one range up to very many
+ *     library kept           counts what events with ranges ask for behind the first: nothing
+ *     library sizes ROWS     feeds standard input, and asks for what is told with buffers of each size
+ *     library record         feeds standard input and very many blank lines, and asks for what is told
  *     library why ROWS N     feeds standard input in pieces of N bytes, and writes why it is refused, with so many rows
  *     library said ROWS      the same of what the commands of standard input say
  *     library allowed        feeds standard input, and writes what its header allowed: a line of numbers for each rule
@@ -528,129 +530,7 @@ static int run_orders(void) {
     return 0;
 }
 
-/* ---- very many ranges */
-
-/* What is returned for an acknowledgment of these ranges, behind a header. One that is out of range leaves the session open. */
-static qaudit_status_t status_of(const qaudit_acknowledgment *ack, const qaudit_range *ranges, size_t count) {
-    qaudit q = {NULL, false};
-    qaudit_trace_header header;
-    qaudit_status_t status;
-    memset(&header, 0, sizeof header);
-    header.max_datagram_size = 1200;
-    if (qaudit_open(&q) != QAUDIT_OPEN || qaudit_header(&q, &header) != QAUDIT_OPEN) return QAUDIT_CLOSED;
-    status = qaudit_ack(&q, ack, ranges, count);
-    if (status == QAUDIT_OUT_OF_RANGE && qaudit_ack(&q, ack, ranges, 1) != QAUDIT_FIXED) status = QAUDIT_CLOSED;
-    qaudit_close(&q);
-    return status;
-}
-
-/* The same of 2,000 numbers, two apart from this one on. */
-static qaudit_status_t status_of_many(uint64_t first) {
-    static qaudit_range ranges[2000];
-    qaudit_acknowledgment ack;
-    size_t i;
-    memset(&ack, 0, sizeof ack);
-    ack.space = QAUDIT_APP;
-    for (i = 0; i < 2000; i++) ranges[i].least = ranges[i].greatest = first + 2 * i;
-    return status_of(&ack, ranges, 2000);
-}
-
-/* The same of a range from 10 to a greatest number and of 1,559 numbers with 19 digits, with a delay and a limit:
- *
- *     {"event":"ack","ranges":[[10,100],[4000000000000000000,4000000000000000000],..],"space":"app","time":0}
- *
- * has 65,536 bytes, and "delay":1, or "limited":true, more. */
-static void fill_long(qaudit_range *ranges, uint64_t greatest) {
-    size_t i;
-    ranges[0].least = 10;
-    ranges[0].greatest = greatest;
-    for (i = 1; i < 1560; i++) ranges[i].least = ranges[i].greatest = 4000000000000000000u + 2 * i;
-}
-
-static qaudit_status_t status_of_long(uint64_t greatest, uint64_t delay, bool limited) {
-    static qaudit_range ranges[1560];
-    qaudit_acknowledgment ack;
-    memset(&ack, 0, sizeof ack);
-    ack.space = QAUDIT_APP;
-    ack.delay = delay;
-    ack.app_limited = limited;
-    fill_long(ranges, greatest);
-    return status_of(&ack, ranges, 1560);
-}
-
-/* An acknowledgment whose line is only short enough without "delay":0 and "limited":false is judged, and ends the record. */
-static int run_longest(void) {
-    static qaudit_range ranges[1560];
-    static uint8_t out[ROOM];
-    qaudit q = {NULL, false};
-    qaudit_trace_header header;
-    qaudit_acknowledgment ack;
-    memset(&header, 0, sizeof header);
-    header.max_datagram_size = 1200;
-    memset(&ack, 0, sizeof ack);
-    ack.space = QAUDIT_APP;
-    fill_long(ranges, 100);
-    if (qaudit_open_recorded(&q) != QAUDIT_OPEN || qaudit_header(&q, &header) != QAUDIT_OPEN) return fail("it took no header");
-    if (qaudit_ack(&q, &ack, ranges, 1560) != QAUDIT_FIXED) return fail("an acknowledgment with a line of 65,536 bytes was not judged");
-    if (qaudit_why(&q, out, ROOM) != 0) return fail("a line of more than 65,536 bytes was recorded");
-    if (qaudit_open_recorded(&q) != QAUDIT_OPEN || qaudit_header(&q, &header) != QAUDIT_OPEN) return fail("it took no header");
-    if (qaudit_ack(&q, &ack, ranges, 1500) != QAUDIT_FIXED || qaudit_why(&q, out, ROOM) == 0) return fail("a long line was not recorded");
-    qaudit_close(&q);
-    return 0;
-}
-
-/* What a line says is judged, and was never sent; of what no line says nothing is taken. */
-static int run_many(void) {
-    if (status_of_many(0) != QAUDIT_FIXED) return fail("an acknowledgment of many short numbers was not judged");
-    if (status_of_many(4000000000000000000u) != QAUDIT_OUT_OF_RANGE) return fail("an acknowledgment that no line says was taken");
-    if (status_of_long(100, 0, false) != QAUDIT_FIXED) return fail("an acknowledgment with a line of 65,536 bytes was not judged");
-    if (status_of_long(1000, 0, false) != QAUDIT_OUT_OF_RANGE) return fail("an acknowledgment with a line of 65,537 bytes was taken");
-    if (status_of_long(100, 1, false) != QAUDIT_OUT_OF_RANGE) return fail("a delay was left out of a line");
-    if (status_of_long(100, 0, true) != QAUDIT_OUT_OF_RANGE) return fail("a limit was left out of a line");
-    return run_longest();
-}
-
-/* ---- memory that is kept */
-
-/* Sends a packet, and acknowledges all so far. Returns how often the acknowledgment asked for memory; less than 0 where a
- * call was not as wanted. */
-static long asked_by_an_acknowledgment(qaudit *q, uint64_t number) {
-    qaudit_packet packet;
-    qaudit_acknowledgment ack;
-    qaudit_range range;
-    long before;
-    memset(&packet, 0, sizeof packet);
-    memset(&ack, 0, sizeof ack);
-    packet.time = ack.time = number;
-    packet.number = range.greatest = number;
-    packet.size = 1200;
-    packet.space = ack.space = QAUDIT_APP;
-    packet.eliciting = packet.in_flight = true;
-    range.least = 0;
-    if (qaudit_sent(q, &packet) != QAUDIT_OPEN) return -1;
-    before = calls;
-    if (qaudit_ack(q, &ack, &range, 1) != QAUDIT_OPEN) return -1;
-    return calls - before;
-}
-
-/* The first acknowledgment asks for memory, and leaves it to those behind it. */
-static int run_kept(void) {
-    qaudit q = {NULL, false};
-    qaudit_trace_header header;
-    uint64_t number;
-    int failed = 0;
-    memset(&header, 0, sizeof header);
-    header.max_datagram_size = 1200;
-    header.role = QAUDIT_SERVER;
-    is_counting = 1;
-    if (qaudit_open(&q) != QAUDIT_OPEN || qaudit_header(&q, &header) != QAUDIT_OPEN) failed = fail("it took no header");
-    if (!failed && asked_by_an_acknowledgment(&q, 0) < 1) failed = fail("the first acknowledgment asked for nothing, or was not taken");
-    for (number = 1; !failed && number < 100; number++)
-        if (asked_by_an_acknowledgment(&q, number) != 0) failed = fail("an acknowledgment asked for memory, or was not taken");
-    qaudit_close(&q);
-    if (!failed && blocks != 0) failed = fail("memory was not given back");
-    return failed;
-}
+#include "library_amounts.h"
 
 int main(int argc, char **argv) {
     size_t piece = argc > 2 ? (size_t)strtoull(argv[2], NULL, 10) : 0;
@@ -661,6 +541,8 @@ int main(int argc, char **argv) {
     if (argc == 2 && strcmp(argv[1], "orders") == 0) return run_orders();
     if (argc == 2 && strcmp(argv[1], "many") == 0) return run_many();
     if (argc == 2 && strcmp(argv[1], "kept") == 0) return run_kept();
+    if (argc == 3 && strcmp(argv[1], "sizes") == 0) return run_sizes((uint16_t)piece);
+    if (argc == 2 && strcmp(argv[1], "record") == 0) return run_record();
     if (argc == 4 && strcmp(argv[1], "why") == 0) return run_why((uint16_t)piece, (size_t)strtoull(argv[3], NULL, 10));
     if (argc == 3 && strcmp(argv[1], "said") == 0) return run_said((uint16_t)piece);
     if (argc == 2 && strcmp(argv[1], "allowed") == 0) return run_allowed();
