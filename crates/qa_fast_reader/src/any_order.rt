@@ -14,8 +14,10 @@ pub fn any_order(alloc: Global, bytes: &[u8]) -> Option<Line>
     ensures { Reads bytes.now result }
 {
     let rest = front(bytes)?;
-    if let Some(line) = in_order(alloc, rest) {
-        return Some(line);
+    if is_kind_or_time(rest) {
+        if let Some(line) = in_order(alloc, rest) {
+            return Some(line);
+        }
     }
     line_of_members(alloc, rest)
 }
@@ -27,7 +29,7 @@ fn front(bytes: &[u8]) -> Option<&[u8]>
 {
     let mut rest = begin_object(bytes)?;
     for i in 0..u64::MAX {
-        if is_kind_or_time(rest) {
+        if is_kind_or_time(rest) || is_like_others(rest) {
             break;
         }
         let Some(behind) = unknown_member(rest) else {
@@ -49,6 +51,24 @@ fn is_kind_or_time(bytes: &[u8]) -> bool {
     (*first == b'e' && *second == b'v') || (*first == b't' && *second == b'i')
 }
 
+/// Whether a look at two letters tells that the key may be another of a packet or an
+/// acknowledgment, and hardly one of a logger's own, as `level` for `leave`.
+#[inline(always)]
+fn is_like_others(bytes: &[u8]) -> bool {
+    let [_, first, second, ..] = bytes else {
+        return false;
+    };
+    match *first {
+        b's' => *second == b'p' || *second == b'i',
+        b'n' => *second == b'u',
+        b'e' => *second == b'l',
+        b'i' => *second == b'n',
+        b'r' => *second == b'a',
+        b'd' => *second == b'e',
+        _ => false,
+    }
+}
+
 /// The event that the members of an object say, from a key on, before which there is nothing that
 /// an event asks for.
 #[inline(never)]
@@ -64,7 +84,7 @@ fn line_of_members(alloc: Global, bytes: &[u8]) -> Option<Line>
             if !end.is_empty() {
                 return None;
             }
-            return found.line_of();
+            return found.line_said();
         };
         rest = more;
     }

@@ -165,4 +165,35 @@ impl Found {
             LineKind::Metrics => self.metrics(),
         }
     }
+
+    /// The same, where the kind is not known beforehand: each kind that most lines have is put
+    /// together apart, so that its line is written once.
+    #[inline(always)]
+    pub fn line_said(&mut self) -> Option<Line>
+        ensures { IfSome result (λ line. SaysLine self.old line) }
+    {
+        match self.event? {
+            LineKind::Sent => self.sent_apart(),
+            LineKind::Ack => self.ack_apart(),
+            _ => self.line_of(),
+        }
+    }
+
+    /// A packet that was sent, where its keys were found.
+    #[inline(never)]
+    fn sent_apart(&self) -> Option<Line>
+        requires { self.now.event ≡ Some LineKind.Sent }
+        ensures { IfSome result (λ line. SaysLine self.now line) }
+    {
+        self.sent()
+    }
+
+    /// An acknowledgment that came, where its keys were found.
+    #[inline(never)]
+    fn ack_apart(&mut self) -> Option<Line>
+        requires { self.old.event ≡ Some LineKind.Ack }
+        ensures { IfSome result (λ line. SaysLine self.old line) }
+    {
+        self.ack()
+    }
 }

@@ -14,5 +14,5 @@ loop-i-preserved c whole before =
 
 pub returns-in_default : goal.returns-in_default
 returns-in_default c whole before =
-    quick_reads c.loop-i.found c.member.new.self c.line_of.result whole c.loop-i.rest.now c.in_ok-behind.behind.now c.in_ok-end.end.now
-    (c.loop-i.invariant whole before) c.in_ok-behind.ensures c.in_ok-end.ensures (search rules) c.line_of.ensures
+    quick_reads c.loop-i.found c.member.new.self c.line_said.result whole c.loop-i.rest.now c.in_ok-behind.behind.now c.in_ok-end.end.now
+    (c.loop-i.invariant whole before) c.in_ok-behind.ensures c.in_ok-end.ensures (search rules) c.line_said.ensures
