@@ -144,6 +144,9 @@ fn push_state(out: &mut String, totals: &Totals) -> Result<(), AllocError>
     push_number_text(out, "owed", totals.owed)
 }
 
+/// How many bytes a row mostly has at most.
+const USUAL_ROW: usize = 160;
+
 /// The row of the line of this number and kind, with the state after it.
 ///
 /// `AllocError` comes only where it is out of memory.
@@ -151,7 +154,7 @@ fn push_state(out: &mut String, totals: &Totals) -> Result<(), AllocError>
 pub fn row(alloc: Global, line: u64, kind: LineKind, totals: &Totals) -> Result<String, AllocError>
     ensures { IfOk result (λ s. string_bytes s ≡ explanation.row line kind totals.now) }
 {
-    let mut out = String::new(alloc);
+    let mut out = String::with_capacity(alloc, USUAL_ROW)?;
     out.push_str("line ")?;
     push_number(&mut out, line)?;
     out.push_str(" ")?;
