@@ -194,6 +194,7 @@ conformance-departures:
 
 conformance-allocations:
 	conformance/allocations $(program)
+	conformance/allocations --reasons $(program_why)
 
 conformance-side-by-side:
 	conformance/side_by_side $(program)
