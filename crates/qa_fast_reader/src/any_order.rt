@@ -1,6 +1,6 @@
 //! Members of an object in any order, with white space and with keys that no event has.
-ghost use Rattle.std.specs.Prelude.{ℕ, List, IfSome};
-ghost use Rattle.qa_fast_reader.specs.Found.{Follows, Reads, nothing};
+ghost use Rattle.std.specs.Prelude.{◌≡◌, ℕ, List, IfSome, true};
+ghost use Rattle.qa_fast_reader.specs.Found.{Follows, IsLineOf, Reads, nothing};
 
 use crate::found::Found;
 use crate::in_order::in_order;
@@ -9,17 +9,34 @@ use qa_format::Line;
 use qa_scan::{begin_object, comma, end_object};
 use std::alloc::Global;
 
-/// The event that the bytes of a line say, where its keys may be in any order.
-pub fn any_order(alloc: Global, bytes: &[u8]) -> Option<Line>
-    ensures { Reads bytes.now result }
+/// Whether the bytes of a line say an event, whose keys may be in any order; the line is put where
+/// it is to stand.
+pub fn any_order(alloc: Global, bytes: &[u8], into: &mut Line) -> bool
+    ensures { result ≡ true → IsLineOf bytes.now into.new }
 {
-    let rest = front(bytes)?;
+    let Some(rest) = front(bytes) else {
+        return false;
+    };
     if is_kind_or_time(rest) {
-        if let Some(line) = in_order(alloc, rest) {
-            return Some(line);
+        if in_order(alloc, rest, into) {
+            return true;
         }
     }
-    line_of_members(alloc, rest)
+    put_members(alloc, rest, into)
+}
+
+/// The same of the members of an object, from a key on, before which there is nothing that an event
+/// asks for.
+#[inline(never)]
+fn put_members(alloc: Global, bytes: &[u8], into: &mut Line) -> bool
+    ensures { (whole : List ℕ) → Follows nothing whole bytes.now → result ≡ true
+        → IsLineOf whole into.new }
+{
+    let Some(line) = line_of_members(alloc, bytes) else {
+        return false;
+    };
+    *into = line;
+    true
 }
 
 /// What follows the brace that opens the object, and the members at its front whose keys no event
@@ -71,7 +88,7 @@ fn is_like_others(bytes: &[u8]) -> bool {
 
 /// The event that the members of an object say, from a key on, before which there is nothing that
 /// an event asks for.
-#[inline(never)]
+#[inline(always)]
 fn line_of_members(alloc: Global, bytes: &[u8]) -> Option<Line>
     ensures { (whole : List ℕ) → Follows nothing whole bytes.now → Reads whole result }
 {

@@ -1,9 +1,9 @@
 //! Members in the order of the format, or with the time before the kind, with white space between
 //! the tokens, as Python's `json.dumps` writes it. Keys that no event has may stand behind them.
-ghost use Rattle.std.specs.Prelude.{◌≡◌, ◌∷◌, ◌++◌, [], ℕ, List, IfSome, codes};
+ghost use Rattle.std.specs.Prelude.{◌≡◌, ◌∷◌, ◌++◌, [], ℕ, List, IfSome, codes, true};
 ghost use Rattle.qa_scan.specs.Lexes.{IsKey};
 ghost use Rattle.qa_fast_reader.specs.Found.{Continues, EndsIf, Follows, IsLaterKey, PutsIf, Reads};
-ghost use Rattle.qa_fast_reader.specs.Found.{begun as begun_so, nothing};
+ghost use Rattle.qa_fast_reader.specs.Found.{IsLineOf, begun as begun_so, nothing};
 
 use crate::found::Found;
 use crate::names::line_kind;
@@ -154,7 +154,7 @@ impl Found {
 }
 
 /// A packet that was sent at this time, from what follows its kind and time on.
-#[inline(never)]
+#[inline(always)]
 fn sent_behind(time: u64, bytes: &[u8]) -> Option<Line>
     ensures { (whole : List ℕ) → EndsIf (begun_so LineKind.Sent time) whole bytes.now
         → Reads whole result }
@@ -170,7 +170,7 @@ fn sent_behind(time: u64, bytes: &[u8]) -> Option<Line>
 }
 
 /// An acknowledgment that came at this time, likewise.
-#[inline(never)]
+#[inline(always)]
 fn ack_behind(alloc: Global, time: u64, bytes: &[u8]) -> Option<Line>
     ensures { (whole : List ℕ) → EndsIf (begun_so LineKind.Ack time) whole bytes.now
         → Reads whole result }
@@ -184,7 +184,7 @@ fn ack_behind(alloc: Global, time: u64, bytes: &[u8]) -> Option<Line>
 }
 
 /// Packets that were declared lost at this time, likewise.
-#[inline(never)]
+#[inline(always)]
 fn lost_behind(alloc: Global, time: u64, bytes: &[u8]) -> Option<Line>
     ensures { (whole : List ℕ) → EndsIf (begun_so LineKind.Lost time) whole bytes.now
         → Reads whole result }
@@ -195,16 +195,59 @@ fn lost_behind(alloc: Global, time: u64, bytes: &[u8]) -> Option<Line>
     found.ended(rest)
 }
 
-/// The packet, acknowledgment or loss whose members stand in this order, from the first of them on.
+/// Whether a packet was sent at this time, which is put where it is to stand.
 #[inline(never)]
-pub fn in_order(alloc: Global, bytes: &[u8]) -> Option<Line>
-    ensures { (whole : List ℕ) → Follows nothing whole bytes.now → Reads whole result }
+fn put_sent(time: u64, bytes: &[u8], into: &mut Line) -> bool
+    ensures { (whole : List ℕ) → EndsIf (begun_so LineKind.Sent time) whole bytes.now
+        → result ≡ true → IsLineOf whole into.new }
 {
-    let (kind, time, rest) = kind_and_time(bytes)?;
+    let Some(line) = sent_behind(time, bytes) else {
+        return false;
+    };
+    *into = line;
+    true
+}
+
+/// Whether an acknowledgment came at this time, likewise.
+#[inline(never)]
+fn put_ack(alloc: Global, time: u64, bytes: &[u8], into: &mut Line) -> bool
+    ensures { (whole : List ℕ) → EndsIf (begun_so LineKind.Ack time) whole bytes.now
+        → result ≡ true → IsLineOf whole into.new }
+{
+    let Some(line) = ack_behind(alloc, time, bytes) else {
+        return false;
+    };
+    *into = line;
+    true
+}
+
+/// Whether packets were declared lost at this time, likewise.
+#[inline(never)]
+fn put_lost(alloc: Global, time: u64, bytes: &[u8], into: &mut Line) -> bool
+    ensures { (whole : List ℕ) → EndsIf (begun_so LineKind.Lost time) whole bytes.now
+        → result ≡ true → IsLineOf whole into.new }
+{
+    let Some(line) = lost_behind(alloc, time, bytes) else {
+        return false;
+    };
+    *into = line;
+    true
+}
+
+/// Whether members say a packet, an acknowledgment or a loss in this order, from the first of them
+/// on; the line is put where it is to stand.
+#[inline(never)]
+pub fn in_order(alloc: Global, bytes: &[u8], into: &mut Line) -> bool
+    ensures { (whole : List ℕ) → Follows nothing whole bytes.now → result ≡ true
+        → IsLineOf whole into.new }
+{
+    let Some((kind, time, rest)) = kind_and_time(bytes) else {
+        return false;
+    };
     match kind {
-        LineKind::Sent => sent_behind(time, rest),
-        LineKind::Ack => ack_behind(alloc, time, rest),
-        LineKind::Lost => lost_behind(alloc, time, rest),
-        _ => None,
+        LineKind::Sent => put_sent(time, rest, into),
+        LineKind::Ack => put_ack(alloc, time, rest, into),
+        LineKind::Lost => put_lost(alloc, time, rest, into),
+        _ => false,
     }
 }

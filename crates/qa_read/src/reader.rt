@@ -11,7 +11,7 @@ use crate::fault::LineFault;
 use crate::json::{is_blank, json_of};
 use crate::{fields, tables};
 use qa_base::{Key, LineKind};
-use qa_fast_reader::{quick_line, usual_line};
+use qa_fast_reader::{other_line, usual_line};
 use qa_format::{Fault, Line};
 use serde_json::Value;
 use std::alloc::Global;
@@ -91,8 +91,7 @@ fn put_other(alloc: Global, bytes: &[u8], into: &mut Line) -> Result<(), LineFau
     ensures blank { list_all reading.is_blank bytes.now ≡ true → IsOk result }
     ensures memory { IsErrOf result LineFault.OutOfMemory → is_utf8 bytes.now ≡ true }
 {
-    if let Some(line) = quick_line(alloc, bytes) {
-        *into = line;
+    if other_line(alloc, bytes, into) {
         return Ok(());
     }
     put_value(alloc, bytes, into)
