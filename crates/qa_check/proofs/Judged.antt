@@ -111,8 +111,8 @@ judged_begin judging before [] = ([], refl)
 judged_begin judging before (l ∷ ls) = elim (cases_Bool (is_some (stop_after judging before l))) [
   | inl bad ↦ rw bad (l ∷ ls, refl)
   | inr good ↦
-    let rest = judged_begin judging (before ++ l ∷ []) ls in
-    rw good (rest.0, sym (append_assoc before (l ∷ []) ls) ∙ rest.1)
+      let rest = judged_begin judging (before ++ l ∷ []) ls in
+      rw good (rest.0, sym (append_assoc before (l ∷ []) ls) ∙ rest.1)
 ]
 
 pub good_begin : (judging : Judging) (bytes : List ℕ) → (more : List (List ℕ)) × (lines bytes ≡ good_lines judging bytes ++ more)

@@ -211,10 +211,7 @@ fn take_rest<J: Judge + Drop, V: Visitor<J>>(
 }
 
 /// Lets the visitor pass on what it keeps back, before this is returned.
-fn flushed<J: Judge, V: Visitor<J>, T: Drop>(
-    visitor: &mut V,
-    taken: T,
-) -> Result<T, Halt<V::Fault>>
+fn flushed<J: Judge, V: Visitor<J>, T: Drop>(visitor: &mut V, taken: T) -> Result<T, Halt<V::Fault>>
     ensures taken { IfOk result (λ value. value ≡ taken) }
     ensures flushed { OnOk result (V.is_flushed visitor.new) }
     ensures ok { OnOk result ((begun : V) (ls : List (List ℕ))
