@@ -21,5 +21,5 @@ mod reports;
 mod unknown;
 
 pub use exact::usual_line;
-pub use line::{other_line, quick_line};
+pub use line::other_line;
 pub use objects::flat_object;
