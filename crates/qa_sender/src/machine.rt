@@ -326,11 +326,11 @@ impl Machine {
         ensures numbers { self.new.numbers ≡ self.old.numbers }
         ensures watch { self.new.watch ≡ self.old.watch }
     {
-        if !self.connection.header.options().loss_by_number.is_may() {
-            self.connection.detection = None;
+        if self.connection.header.options().loss_by_number.is_may() {
+            self.keep_whole(space, looked, mark, acknowledged);
             return;
         }
-        self.keep_whole(space, looked, mark, acknowledged);
+        self.connection.detection = None;
     }
 
     /// Keeps all of a detection, as `keep_detection` says. Few headers let packets be spared.
