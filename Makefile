@@ -72,7 +72,7 @@ help:
 	@echo 'make test      runs the merge gate, and then the program over conformance/'
 	@echo 'make test_library  builds the library for C and runs it over conformance/, in each language that is there'
 	@echo 'make gate      runs the merge gate alone'
-	@echo 'make edits     tries the must-fail edits in edits/, which the gate does not try, in about an hour'
+	@echo 'make edits     tries the must-fail edits in edits/ of each crate that changed since, in up to an hour'
 	@echo 'make conformance runs the programs over conformance/ alone, once the gate has built them'
 	@echo 'make test_page runs the tests of qaudit-page and qaudit-matrix, those in a browser where one is there'
 	@echo 'make pictures  makes the pictures of docs, where a browser is there'
@@ -250,7 +250,7 @@ wrong:
 commands:
 	conformance/commands
 
-# The edits that the gate does not try. A release needs them tried on the same crates.
+# The edits that the gate does not try, of each crate that changed since they were tried. A release needs them all refused.
 edits:
 	release/edits
 

@@ -5,6 +5,7 @@ Each test has a repository of its own in a temporary folder, and a stand-in for 
 each edit that it finds in must-fail/ but those that say not to.
 """
 
+import csv
 import os
 import shutil
 import subprocess
@@ -28,10 +29,11 @@ for edit in sorted(pathlib.Path("crates").glob("*/must-fail/*.edit")):
         continue
     if "still proved" in edit.read_text():
         print(f"rt: {{name}}: NOT REFUSED: the crate is still proved with this edit")
+    elif "stops the run" in edit.read_text():
+        sys.exit("killed")
     elif "is untried" not in edit.read_text():
         print(f"rt: {{name}}: refused, as it must be: src/lib.rt:1:1: error")
 """
-LATER = "date: 2026-01-02\ncommit: {}\nkit: kit-1\nrefused: {}\nnot refused: {}\n"
 
 
 class EditsTest(unittest.TestCase):
@@ -39,14 +41,17 @@ class EditsTest(unittest.TestCase):
 
     def setUp(self) -> None:
         self.top = new_folder(self)
-        for name in ("crates/qa/src/lib.rt", "crates/qb/src/lib.rt", "crates.txt", "HANDLES"):
-            self.write(name, "text\n")
+        self.write("crates.txt", "# Of this test\nqa: memchr\nqb: qa thiserror\nqc:\n")
+        for name in ("qa/src/lib.rt", "qb/src/lib.rt", "qb/proofs/Lib.antt", "qc/src/lib.rt"):
+            self.write(f"crates/{name}", "text\n")
+        self.write("HANDLES", "Handles allowed: none.\n")
         self.write("crates/qa/must-fail/of_the_gate.edit", "still proved\n")
         self.write("edits/qa/one.edit", "file: src/lib.rt\n")
         self.write("edits/qb/two.edit", "file: src/lib.rt\n")
         (self.top / "release").mkdir()
-        shutil.copy(FOLDER.parent / "release/edits", self.top / "release")
-        self.write(".gitignore", "bin/\n")
+        for name in ("edits", "crates.py"):
+            shutil.copy(FOLDER.parent / "release" / name, self.top / "release")
+        self.write(".gitignore", "bin/\n__pycache__/\n")
         (self.top / "bin").mkdir()
         write_program(self.top / "bin/rt", RT)
         self.git("init", "--quiet", "--initial-branch", "main")
@@ -87,48 +92,75 @@ class EditsTest(unittest.TestCase):
         self.assertEqual(ended.returncode, status, ended.stdout + ended.stderr)
         return (ended.stdout + ended.stderr).splitlines()
 
-    def result(self) -> dict[str, str]:
-        """What edits/RESULT says, but for the date."""
-        lines = (self.top / "edits/RESULT").read_text().splitlines()
-        values = dict(line.split(": ", 1) for line in lines)
-        self.assertRegex(values.pop("date"), r"\d{4}-\d\d-\d\d")
-        return values
-
-    def write_result(self, commit: str, refused: int = 2, not_refused: str = "none") -> None:
-        """Writes a result."""
-        self.write("edits/RESULT", LATER.format(commit, refused, not_refused))
+    def result(self) -> dict[str, dict[str, str]]:
+        """The rows of edits/RESULT by their crates."""
+        with (self.top / "edits/RESULT").open(newline="") as file:
+            return {row.pop("crate"): row for row in csv.DictReader(file, delimiter="\t")}
 
     # What it tries.
 
     def test_all_are_refused(self) -> None:
         commit = self.git("rev-parse", "HEAD")
         printed = self.run_edits(0)
-        self.assertEqual(printed[0], "rt: ci")
+        self.assertEqual(printed[0], "rt: ci qa qb")
         self.assertNotIn("of_the_gate", "\n".join(printed))
-        wanted = {"commit": commit, "kit": KIT, "refused": "2", "not refused": "none"}
-        self.assertEqual(self.result(), wanted)
-        self.run_edits(0, "--check")
+        rows = self.result()
+        self.assertEqual(list(rows), ["qa", "qb"])
+        for row in rows.values():
+            self.assertRegex(row.pop("date"), r"\d{4}-\d\d-\d\d")
+            self.assertRegex(row.pop("sources"), r"[0-9a-f]{16}")
+            wanted = {"refused": "1", "not_refused": "none", "commit": commit, "kit": KIT}
+            self.assertEqual(row, wanted)
+        self.assertEqual(self.run_edits(0, "--check"), [])
+
+    def test_nothing_is_tried_again(self) -> None:
+        self.run_edits(0)
+        printed = self.run_edits(0)
+        wanted = "all edits were refused over these sources, as edits/RESULT says"
+        self.assertEqual(printed, [wanted])
 
     def test_one_is_not_refused(self) -> None:
         self.write("edits/qa/one.edit", "still proved\n")
         self.commit()
         self.run_edits(1)
-        self.assertEqual(self.result()["refused"], "1")
-        self.assertEqual(self.result()["not refused"], "qa/one")
+        rows = self.result()
+        self.assertEqual(rows["qa"]["refused"], "0")
+        self.assertEqual(rows["qa"]["not_refused"], "qa/one")
+        self.assertEqual(rows["qb"]["not_refused"], "none")
+        self.assertEqual(self.run_edits(1)[0], "rt: ci qa")
 
     def test_one_is_not_tried(self) -> None:
         self.write("edits/qb/two.edit", "is untried\n")
         self.commit()
         self.run_edits(1)
-        self.assertEqual(self.result()["not refused"], "qb/two")
+        self.assertEqual(self.result()["qb"]["not_refused"], "qb/two")
 
-    def test_one_crate(self) -> None:
+    def test_one_of_two_is_not_refused(self) -> None:
+        self.write("edits/qb/three.edit", "still proved\n")
+        self.commit()
+        self.run_edits(1)
+        self.assertEqual(self.result()["qb"]["refused"], "1")
+        self.assertEqual(self.result()["qb"]["not_refused"], "qb/three")
+
+    def test_run_that_is_stopped(self) -> None:
+        self.write("edits/qb/two.edit", "stops the run\n")
+        self.commit()
+        self.run_edits(1)
+        self.assertEqual(self.result()["qa"]["not_refused"], "none")
+        self.assertEqual(self.result()["qb"]["not_refused"], "qb/two")
+
+    def test_named_crate(self) -> None:
         self.write("edits/qa/one.edit", "still proved\n")
         self.commit()
         printed = self.run_edits(0, "qb")
-        self.assertEqual(printed[0], "rt: must-fail qb")
-        self.assertFalse((self.top / "edits/RESULT").exists())
+        self.assertEqual(printed[0], "rt: ci qb")
+        self.assertEqual(list(self.result()), ["qb"])
         self.run_edits(1, "qa")
+        self.assertEqual(list(self.result()), ["qa", "qb"])
+
+    def test_named_crate_is_tried_again(self) -> None:
+        self.run_edits(0)
+        self.assertEqual(self.run_edits(0, "qa")[0], "rt: ci qa")
 
     def test_crate_without_edits(self) -> None:
         printed = self.run_edits(1, "qc")
@@ -142,57 +174,89 @@ class EditsTest(unittest.TestCase):
 
     # What counts.
 
-    def assert_counts_not(self, why: str) -> None:
-        """The result does not count, for this reason."""
+    def assert_is_old(self, *crates: str) -> None:
+        """The rows of these crates do not count, and only these are tried again."""
         printed = self.run_edits(1, "--check")
-        self.assertIn(why, "\n".join(printed))
+        why = f"edits/RESULT has no row of the sources as they are for {' '.join(crates)}:"
+        self.assertIn(why, printed[0])
+        self.commit()
+        self.assertEqual(self.run_edits(0)[0], f"rt: ci {' '.join(crates)}")
+        self.run_edits(0, "--check")
 
     def test_no_result(self) -> None:
-        self.assert_counts_not("edits/RESULT is not there: `make edits` tries the edits")
-
-    def test_result_of_this_commit(self) -> None:
-        self.write_result(self.git("rev-parse", "HEAD"))
-        self.assertEqual(self.run_edits(0, "--check"), [])
-        self.commit()
-        self.run_edits(0, "--check")
+        self.assert_is_old("qa", "qb")
 
     def test_result_with_one_that_was_not_refused(self) -> None:
-        self.write_result(self.git("rev-parse", "HEAD"), 1, "qa/one")
-        self.assert_counts_not("edits/RESULT has edits that were not refused: qa/one")
-
-    def test_result_of_fewer_edits(self) -> None:
-        self.write_result(self.git("rev-parse", "HEAD"), 1)
-        self.assert_counts_not("edits/RESULT is of 1 edits, and there are 2")
-
-    def test_crate_that_changed_since(self) -> None:
-        commit = self.git("rev-parse", "HEAD")
-        self.write_result(commit)
-        self.write("crates/qb/src/lib.rt", "other\n")
-        self.assert_counts_not("since then these changed:\ncrates/qb/src/lib.rt")
+        self.write("edits/qa/one.edit", "still proved\n")
         self.commit()
-        self.assert_counts_not("since then these changed:\ncrates/qb/src/lib.rt")
+        self.run_edits(1)
+        printed = self.run_edits(1, "--check")
+        self.assertIn("edits/RESULT has edits that were not refused: qa/one", printed[0])
 
-    def test_edit_that_changed_since(self) -> None:
-        self.write_result(self.git("rev-parse", "HEAD"))
-        self.write("edits/qb/two.edit", "other\n")
-        self.assert_counts_not("since then these changed:\nedits/qb/two.edit")
+    def test_result_that_is_no_table(self) -> None:
+        self.write("edits/RESULT", "date: 2026-01-02\ncommit: 0\nrefused: 2\n")
+        printed = self.run_edits(1, "--check")
+        self.assertIn("edits/RESULT is no table of crates: delete it", printed[0])
 
-    def test_page_that_changed_since(self) -> None:
-        self.write_result(self.git("rev-parse", "HEAD"))
-        self.write("edits/README.md", "other\n")
-        self.commit()
+    def test_crate_that_changed(self) -> None:
+        self.run_edits(0)
+        self.write("crates/qb/proofs/Lib.antt", "other\n")
+        self.assert_is_old("qb")
+
+    def test_crate_below_that_changed(self) -> None:
+        self.run_edits(0)
+        self.write("crates/qa/src/lib.rt", "other\n")
+        self.assert_is_old("qa", "qb")
+
+    def test_crate_below_with_a_new_file(self) -> None:
+        self.run_edits(0)
+        self.write("crates/qa/specs/Lib.antt", "")
+        self.assert_is_old("qa", "qb")
+
+    def test_crate_that_uses_another(self) -> None:
+        self.run_edits(0)
+        self.write("crates.txt", "# Of this test\nqa: memchr\nqb: qa itoa\nqc:\n")
+        self.assert_is_old("qb")
+
+    def test_crate_that_no_edit_rests_on(self) -> None:
+        self.run_edits(0)
+        self.write("crates/qc/src/lib.rt", "other\n")
         self.run_edits(0, "--check")
 
-    def test_commit_that_is_not_there(self) -> None:
-        self.write_result("0" * 40)
-        self.assert_counts_not("git diff")
+    def test_edit_that_changed(self) -> None:
+        self.run_edits(0)
+        self.write("edits/qb/two.edit", "other\n")
+        self.assert_is_old("qb")
+
+    def test_edit_that_is_new(self) -> None:
+        self.run_edits(0)
+        self.write("edits/qa/three.edit", "other\n")
+        self.assert_is_old("qa")
+
+    def test_edit_that_is_gone(self) -> None:
+        self.write("edits/qa/three.edit", "other\n")
+        self.commit()
+        self.run_edits(0)
+        (self.top / "edits/qa/three.edit").unlink()
+        self.assert_is_old("qa")
+
+    def test_crate_without_edits_any_more(self) -> None:
+        self.run_edits(0)
+        (self.top / "edits/qb/two.edit").unlink()
+        self.assertEqual(self.run_edits(0, "--check"), [])
+        self.commit()
+        self.run_edits(0, "qa")
+        self.assertEqual(list(self.result()), ["qa"])
+
+    def test_page_that_changed(self) -> None:
+        self.run_edits(0)
+        self.write("edits/README.md", "other\n")
+        self.run_edits(0, "--check")
 
     def test_sources_without_git(self) -> None:
-        self.write_result("0" * 40)
+        self.run_edits(0)
         shutil.rmtree(self.top / ".git")
-        printed = self.run_edits(0, "--check")
-        wanted = f"there is no git here, so it is not known what changed since {'0' * 40}"
-        self.assertEqual(printed, [wanted])
+        self.run_edits(0, "--check")
 
 
 if __name__ == "__main__":
