@@ -76,6 +76,9 @@ PAGE = """\
 Before.
 <!-- release/minutes puts what follows here -->
 <!-- up to here -->
+Between.
+<!-- release/minutes gate puts what follows here -->
+<!-- up to here, by crate -->
 After.
 """
 
@@ -406,6 +409,24 @@ class Watching(unittest.TestCase):
         watch.look(os.getpid(), 9.0)
         self.assertEqual(watch.running, [])
 
+    def test_processes_for_edits(self) -> None:
+        words = [sys.executable, "-c", "import time; time.sleep(60)", "check", "--crate-name"]
+        watch = Watch()
+        with (
+            subprocess.Popen([*words, "qa_thing", "--incremental", "/tmp/rt-edits-1-a/2"]) as one,
+            subprocess.Popen([*words, "qa_thing", "--incremental", "out/incremental"]) as other,
+        ):
+            limit = time.monotonic() + 30
+            while len(watch.seconds) < 2 and time.monotonic() < limit:
+                watch.look(os.getpid(), 5.0)
+            self.assertEqual(watch.for_edits, {one.pid})
+            watch.seconds = {("qa_thing", one.pid): 2.0, ("qa_thing", other.pid): 5.0}
+            one.kill()
+            other.kill()
+        self.assertEqual(watch.processor_seconds(), {"qa_thing": 7.0})
+        self.assertEqual(watch.processor_seconds(of_edits=True), {"qa_thing": 2.0})
+        self.assertEqual(watch.processor_seconds(of_edits=False), {"qa_thing": 5.0})
+
     def test_lines_while_it_is_quiet(self) -> None:
         program = script(HERE / "prove")
         said: list[str] = []
@@ -475,9 +496,22 @@ class Minutes(unittest.TestCase):
         wanted = "how long it takes was not measured"
         self.assertEqual(self.minutes.said_of("quick", page), wanted)
 
+    def test_minutes_by_crate(self) -> None:
+        watch = Watch(seconds={("qa_base", 1): 90.0, ("qa_base", 2): 30.0}, for_edits={2})
+        page = self.minutes.with_crates(PAGE, watch, 180.0)
+        self.assertIn("\n| Crate | Proof, program and tests | Edits |\n", page)
+        self.assertIn("\n| `qa_base` | 1.5 | 0.5 |\n| `qa_format` |  |  |\n", page)
+        self.assertIn("\n| `rt` itself, and what was not seen | 1.0 | |\n", page)
+        self.assertIn("\n| all | 2.5 | 0.5 |\n", page)
+        self.assertEqual(page, self.minutes.with_crates(page, watch, 180.0))
+        self.assertTrue(page.startswith("Before.\n"))
+        self.assertTrue(page.endswith("\nAfter.\n"))
+
     def test_a_page_without_a_place(self) -> None:
         with self.assertRaisesRegex(Exception, "has no place for the table"):
             self.minutes.said_of("run", "Before.\n")
+        with self.assertRaisesRegex(Exception, "has no place for the table"):
+            self.minutes.with_crates("Before.\n", Watch(), 1.0)
 
 
 if __name__ == "__main__":

@@ -1,4 +1,4 @@
-"""Runs a command, and says which crates its processes work on."""
+"""Runs a command, and says which crates its processes work on, and how long."""
 
 import os
 import queue
@@ -13,6 +13,8 @@ PROC = Path("/proc")
 TICKS = os.sysconf("SC_CLK_TCK")
 # The prover has this before the name of the crate among its arguments.
 NAME = b"--crate-name"
+# And this in a path among them, if it tries must-fail edits or makes what they begin with.
+OF_EDITS = b"rt-edits-"
 # No line is empty.
 END = ""
 # Places in /proc/PID/stat, counted from the one after the name in brackets.
@@ -21,11 +23,13 @@ PARENT, USER_TICKS, SYSTEM_TICKS = 1, 11, 12
 
 @dataclass(frozen=True)
 class Process:
-    """A process as /proc shows it: its parent, its seconds of processor time, and its crate."""
+    """A process as /proc shows it: its parent, its seconds of processor time, its crate, and
+    whether it is for must-fail edits."""
 
     parent: int
     seconds: float
     crate: str
+    is_for_edits: bool
 
 
 def crate_in(arguments: list[bytes]) -> str:
@@ -45,7 +49,9 @@ def processes() -> dict[int, Process]:
             # It has ended.
             continue
         seconds = (int(stat[USER_TICKS]) + int(stat[SYSTEM_TICKS])) / TICKS
-        found[int(folder.name)] = Process(int(stat[PARENT]), seconds, crate_in(arguments))
+        is_for_edits = any(OF_EDITS in it for it in arguments)
+        process = Process(int(stat[PARENT]), seconds, crate_in(arguments), is_for_edits)
+        found[int(folder.name)] = process
     return found
 
 
@@ -59,11 +65,12 @@ def is_below(number: int, ancestor: int, all_of_them: dict[int, Process]) -> boo
 @dataclass
 class Watch:
     """What was seen of the processes of a command: of each crate when its first one began, its
-    seconds of processor time, and which run now."""
+    seconds of processor time, those of them for must-fail edits, and which run now."""
 
     began: dict[str, float] = field(default_factory=dict)
     seconds: dict[tuple[str, int], float] = field(default_factory=dict)
     running: list[str] = field(default_factory=list)
+    for_edits: set[int] = field(default_factory=set)
 
     def look(self, ancestor: int, now: float) -> None:
         """Looks at the processes below one."""
@@ -73,14 +80,18 @@ class Watch:
             if process.crate and is_below(number, ancestor, found):
                 self.began.setdefault(process.crate, now)
                 self.seconds[process.crate, number] = process.seconds
+                if process.is_for_edits:
+                    self.for_edits.add(number)
                 if process.crate not in self.running:
                     self.running.append(process.crate)
 
-    def processor_seconds(self) -> dict[str, float]:
-        """The seconds of processor time of each crate, as far as they were seen."""
+    def processor_seconds(self, of_edits: bool | None = None) -> dict[str, float]:
+        """The seconds of processor time of each crate, as far as they were seen: of its must-fail
+        edits, of all else, or of both."""
         totals: dict[str, float] = {}
-        for (crate, _), seconds in self.seconds.items():
-            totals[crate] = totals.get(crate, 0.0) + seconds
+        for (crate, number), seconds in self.seconds.items():
+            if of_edits in (None, number in self.for_edits):
+                totals[crate] = totals.get(crate, 0.0) + seconds
         return totals
 
 
