@@ -38,11 +38,29 @@ fn kind_and_time(bytes: &[u8]) -> Option<(LineKind, u64, &[u8])>
     ensures { IfSome result (λ found. (whole : List ℕ) → Follows nothing whole bytes.now
         → EndsIf (begun_so found.0 found.1) whole found.2.now) }
 {
-    if let Some(value) = value_at(bytes, b"\"event\":") {
-        let (kind, rest) = line_kind(value)?;
-        let (time, rest) = open_integer(next_value(rest, b"\"time\":")?)?;
-        return Some((kind, time, rest));
+    if let Some(found) = kind_then_time(bytes) {
+        return Some(found);
     }
+    time_then_kind(bytes)
+}
+
+/// The same, if the kind comes first.
+#[inline(always)]
+fn kind_then_time(bytes: &[u8]) -> Option<(LineKind, u64, &[u8])>
+    ensures { IfSome result (λ found. (whole : List ℕ) → Follows nothing whole bytes.now
+        → EndsIf (begun_so found.0 found.1) whole found.2.now) }
+{
+    let (kind, rest) = line_kind(value_at(bytes, b"\"event\":")?)?;
+    let (time, rest) = open_integer(next_value(rest, b"\"time\":")?)?;
+    Some((kind, time, rest))
+}
+
+/// The same, if the time comes first.
+#[inline(always)]
+fn time_then_kind(bytes: &[u8]) -> Option<(LineKind, u64, &[u8])>
+    ensures { IfSome result (λ found. (whole : List ℕ) → Follows nothing whole bytes.now
+        → EndsIf (begun_so found.0 found.1) whole found.2.now) }
+{
     let (time, rest) = open_integer(value_at(bytes, b"\"time\":")?)?;
     let (kind, rest) = line_kind(next_value(rest, b"\"event\":")?)?;
     Some((kind, time, rest))
@@ -104,6 +122,26 @@ impl Found {
         Some(rest)
     }
 
+    /// The number and the size of a packet are found, if they come next; what follows is to end
+    /// them.
+    #[inline(always)]
+    fn number_and_size<'a>(&mut self, bytes: &'a [u8]) -> Option<&'a [u8]>
+        ensures { IfSome result (λ rest. Continues self.old self.new bytes.now rest.now) }
+    {
+        let rest = self.open_number(next_value(bytes, b"\"number\":")?)?;
+        self.open_size(next_value(rest, b"\"size\":")?)
+    }
+
+    /// Whether a packet is ack-eliciting and in flight is found, if that comes next; what follows
+    /// is to end it.
+    #[inline(always)]
+    fn eliciting_and_in_flight<'a>(&mut self, bytes: &'a [u8]) -> Option<&'a [u8]>
+        ensures { IfSome result (λ rest. Continues self.old self.new bytes.now rest.now) }
+    {
+        let rest = self.open_eliciting(next_value(bytes, b"\"eliciting\":")?)?;
+        self.open_in_flight(next_value(rest, b"\"in_flight\":")?)
+    }
+
     /// Why the packet was allowed to leave is found, or null there, where it comes next; gives what
     /// follows.
     #[inline(always)]
@@ -161,10 +199,8 @@ fn sent_behind(time: u64, bytes: &[u8]) -> Option<Line>
 {
     let mut found = Found::begun(LineKind::Sent, time);
     let rest = found.space(next_value(bytes, b"\"space\":")?)?;
-    let rest = found.open_number(next_value(rest, b"\"number\":")?)?;
-    let rest = found.open_size(next_value(rest, b"\"size\":")?)?;
-    let rest = found.open_eliciting(next_value(rest, b"\"eliciting\":")?)?;
-    let rest = found.open_in_flight(next_value(rest, b"\"in_flight\":")?)?;
+    let rest = found.number_and_size(rest)?;
+    let rest = found.eliciting_and_in_flight(rest)?;
     let rest = found.permission_there(rest)?;
     found.ended(rest)
 }

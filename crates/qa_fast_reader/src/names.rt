@@ -12,15 +12,31 @@ use qa_scan::after;
 pub fn line_kind(bytes: &[u8]) -> Option<(LineKind, &[u8])>
     ensures { IfSome result (λ found. IsQuoted (line_kind_name found.0) bytes.now found.1.now) }
 {
+    if let Some(found) = kind_with_packets(bytes) {
+        return Some(found);
+    }
+    kind_without_packets(bytes)
+}
+
+/// The same, if the line is of packets, as most are.
+#[inline(always)]
+fn kind_with_packets(bytes: &[u8]) -> Option<(LineKind, &[u8])>
+    ensures { IfSome result (λ found. IsQuoted (line_kind_name found.0) bytes.now found.1.now) }
+{
     if let Some(rest) = after(bytes, b"\"sent\"") {
         return Some((LineKind::Sent, rest));
     }
     if let Some(rest) = after(bytes, b"\"ack\"") {
         return Some((LineKind::Ack, rest));
     }
-    if let Some(rest) = after(bytes, b"\"lost\"") {
-        return Some((LineKind::Lost, rest));
-    }
+    Some((LineKind::Lost, after(bytes, b"\"lost\"")?))
+}
+
+/// The same, if it is not.
+#[inline(always)]
+fn kind_without_packets(bytes: &[u8]) -> Option<(LineKind, &[u8])>
+    ensures { IfSome result (λ found. IsQuoted (line_kind_name found.0) bytes.now found.1.now) }
+{
     if let Some(rest) = after(bytes, b"\"timer\"") {
         return Some((LineKind::Timer, rest));
     }
