@@ -50,7 +50,7 @@ python_of_release := $(addprefix release/,archive edits minutes prove unproved) 
 python_of_bindings := $(wildcard bindings/python/*.py)
 # Checked for style alone, since they need pytest.
 python_of_recipes := $(wildcard examples/embedding/pytest/*.py)
-python_of_bench := $(addprefix bench/,instructions library peers run trace) $(wildcard bench/*.py) bench/programs/read.py
+python_of_bench := $(addprefix bench/,files instructions library peers run trace) $(wildcard bench/*.py) bench/programs/read.py
 
 # The programs of conformance/ over what the gate built, the longest first. None waits for another.
 conformance := conformance-cuts conformance-failing conformance-refusals conformance-simulate conformance-mutations \
@@ -329,6 +329,7 @@ bench: build
 	bench/peers $(built)
 	bench/instructions $(built)
 	bench/instructions --forms $(built)
+	bench/files $(built)
 	if [ -f $(library) ]; then bench/library $(built) $(library); fi
 
 # A release is a folder that installs itself, so that there is one way to install.

@@ -36,6 +36,8 @@ OF_FORMS = {
     "nulls": (2_500, 3_200),
     "slog": (2_500, 3_200),
 }
+# Of a file that has a header and no event.
+INSTRUCTIONS_OF_A_FILE = 15_000
 # Of an event that is handed to the library for C as a struct.
 NANOSECONDS_OF_AN_EVENT = 100
 QUICK_FORMS = ("sorted", "format")

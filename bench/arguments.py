@@ -14,10 +14,11 @@ and 64 where the arguments are wrong."""
 class BenchParser(Parser):
     """Reads the arguments of a program that measures, which begin with those that all such have."""
 
-    def __init__(self, text: str | None, shapes: list[str]) -> None:
+    def __init__(self, text: str | None, shapes: list[str] | None) -> None:
         super().__init__(text, ENDING)
-        only = "measure only this shape, which may be said of several"
-        self.add_argument("--shape", action="append", choices=shapes, help=only)
+        if shapes is not None:
+            only = "measure only this shape, which may be said of several"
+            self.add_argument("--shape", action="append", choices=shapes, help=only)
         folder = "where the temporary folder for traces is to be"
         self.add_argument("--folder", metavar="FOLDER", help=folder)
         self.add_argument("program", metavar="PROGRAM", type=program, help="the auditor")

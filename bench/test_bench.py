@@ -54,6 +54,7 @@ ORDER = (
 UNKNOWN = ("note", "serial", "level", "msg", "source")
 
 
+files = script(Path(__file__).resolve().parent / "files")
 peers = script(Path(__file__).resolve().parent / "peers")
 instructions = script(Path(__file__).resolve().parent / "instructions")
 
@@ -383,6 +384,38 @@ class Instructions(unittest.TestCase):
         self.assertEqual(instructions.aim_of("32-ranges", by_name["nested"]), 2_700)
         self.assertIsNone(instructions.aim_of("receiver", by_name["nulls"]))
         self.assertEqual(set(OF_FORMS), {it.name for it in ALL_FORMS} - {"sorted", "format"})
+
+
+class Files(unittest.TestCase):
+    """A file costs what one more costs, of those with events and of those without."""
+
+    def test_files(self) -> None:
+        folder = new_folder(self)
+        empty, short = files.written(folder)
+        self.assertEqual((empty.events, short.events), (0, 38))
+        header, *events = short.path.read_bytes().splitlines(keepends=True)
+        self.assertEqual((empty.path.read_bytes(), len(events)), (header, 38))
+        trace = short.again(3)
+        self.assertEqual(trace.files, [str(folder / "handshake")] * 3)
+        self.assertEqual((trace.events, trace.lines), (114, 117))
+
+    def test_instructions(self) -> None:
+        """Of a program that takes 500 to start and 7 a file."""
+        file = files.File(Path(__file__), 38)
+        with unittest.mock.patch.object(files, "count", lambda _, it: 500 + 7 * it.times):
+            self.assertEqual(files.instructions("/program", file, 10), 7)
+
+    def test_aims(self) -> None:
+        short, empty = (files.File(Path(__file__), it) for it in (38, 0))
+        self.assertEqual(files.aim_of(short, 15_001), "")
+        self.assertEqual(files.aim_of(empty, 15_000), "15,000")
+        self.assertEqual(files.aim_of(empty, 15_001), "15,000, missed")
+
+    def test_arguments(self) -> None:
+        self.assertEqual(files.parsed([sys.executable]).files, 10_000)
+        for wrong in (["--files", "0", sys.executable], ["--shape", "lost", sys.executable]):
+            with self.assertRaises(SystemExit), contextlib.redirect_stderr(io.StringIO()):
+                files.parsed(wrong)
 
 
 class Arguments(unittest.TestCase):

@@ -13,7 +13,7 @@ use Rattle.serde_json.specs.Read.{of_items, of_members}
 use Rattle.serde_json.proofs.Numbers.{number_of-decimal}
 use Rattle.qa_format.specs.format.Written.{integer, string, boolean}
 use Rattle.qa_scan.specs.Lexes.{Lexes, lexemes, items_lexemes, members_lexemes, is_plain, IsQuoted, IsString, IsNumber, IsValueWithin}
-use Rattle.qa_scan.proofs.Lexing.{then, lexes_quoted}
+use Rattle.qa_scan.proofs.Lexing.{ends_then, then, lexes_quoted}
 use Rattle.qa_fast_reader.specs.Items.{IsSimpleOf, IsSomeValue, IsSomeMember, IsValueBefore, IsMemberWithin, FollowsItems, FollowsMembersWithin, items_after}
 
 -- ---- values
@@ -52,6 +52,7 @@ empty_is_value d bytes inside rest some opened closed = record { form = form.arr
 
 pub items_begin : (d : ℕ) (bytes rest : List ℕ) → Lexes bytes rest (token tokens.begin_array ∷ []) → FollowsItems d [] bytes rest
 items_begin d bytes rest opened = record {
+  ends = opened.ends;
   utf8 = opened.utf8;
   reads = λ j js values behind shallow read lexed. record {
     form = form.array (form.item j js);
@@ -80,6 +81,7 @@ item_then e d value seen bytes rest next below before one js values behind shall
 pub items_go_on : (e d : ℕ) (value : Data) (seen : List Data) (bytes rest next more : List ℕ) → d < e → FollowsItems e seen bytes rest → IsValueWithin d value rest next → Lexes next more (comma ∷ [])
     → FollowsItems e (seen ++ value ∷ []) bytes more
 items_go_on e d value seen bytes rest next more below before one parted = record {
+  ends = ends_then before.ends (ends_then one.lexed.ends parted.ends);
   utf8 = λ u. before.utf8 (one.lexed.utf8 (parted.utf8 u));
   reads = λ j js values behind shallow read lexed.
       item_then e d value seen bytes rest next below before one (form.item j js) values behind (omega (arith, shallow)) read (parted.lexes ∙ ap (λ ls. comma ∷ ls) lexed);
@@ -93,7 +95,7 @@ items_end e d value seen bytes rest next more below before one closed =
       form = whole.form;
       reads = whole.reads;
       shallow = whole.shallow;
-      lexed = record { lexes = whole.lexes; utf8 = λ u. before.utf8 (one.lexed.utf8 (closed.utf8 u)) };
+      lexed = record { ends = ends_then before.ends (ends_then one.lexed.ends closed.ends); lexes = whole.lexes; utf8 = λ u. before.utf8 (one.lexed.utf8 (closed.utf8 u)) };
     }
 
 -- ---- the object that stands in another
@@ -121,6 +123,7 @@ empty_object_is_value d bytes inside rest some opened closed = record { form = f
 
 pub inner_begins : (d : ℕ) (bytes rest : List ℕ) → Lexes bytes rest (token tokens.begin_object ∷ []) → FollowsMembersWithin d json.no_members bytes rest
 inner_begins d bytes rest opened = record {
+  ends = opened.ends;
   utf8 = opened.utf8;
   reads = λ key j ms all behind shallow put_in lexed. record {
     form = form.object (form.member key j ms);
@@ -143,6 +146,7 @@ inner_then e d key value seen bytes rest next below before one ms all behind sha
 pub inner_goes_on : (e d : ℕ) (key : List ℕ) (value : Data) (seen : json.Members) (bytes rest next more : List ℕ) → d < e → FollowsMembersWithin e seen bytes rest → IsMemberWithin d key value rest next
     → Lexes next more (comma ∷ []) → FollowsMembersWithin e (put key value seen) bytes more
 inner_goes_on e d key value seen bytes rest next more below before one parted = record {
+  ends = ends_then before.ends (ends_then one.lexed.ends parted.ends);
   utf8 = λ u. before.utf8 (one.lexed.utf8 (parted.utf8 u));
   reads = λ k j ms all behind shallow put_in lexed.
       inner_then e d key value seen bytes rest next below before one (form.member k j ms) all behind (omega (arith, shallow)) put_in (parted.lexes ∙ ap (λ ls. comma ∷ ls) lexed);
@@ -156,5 +160,5 @@ inner_ends e d key value seen bytes rest next more below before one closed =
       form = whole.form;
       reads = whole.reads;
       shallow = whole.shallow;
-      lexed = record { lexes = whole.lexes; utf8 = λ u. before.utf8 (one.lexed.utf8 (closed.utf8 u)) };
+      lexed = record { ends = ends_then before.ends (ends_then one.lexed.ends closed.ends); lexes = whole.lexes; utf8 = λ u. before.utf8 (one.lexed.utf8 (closed.utf8 u)) };
     }

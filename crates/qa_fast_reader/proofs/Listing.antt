@@ -14,7 +14,7 @@ use Rattle.qa_format.proofs.format.Compact.{of_json-outline, depth-outline}
 use Rattle.qa_format.proofs.format.KeysWritten.{ranges_are_kept}
 use Rattle.qa_scan.specs.Lexes.{Lexes, lexemes, IsValueOf}
 use Rattle.qa_fast_reader.specs.Ranges.{Spans, ranges_data, IsBehindSpace, IsPair, TakesRange, TakesRanges, FollowsRanges, IsShortRange}
-use Rattle.qa_scan.proofs.Lexing.{then, lexes_nothing, one_space, lexes_begin_array, lexes_comma, lexes_end_array, lexes_integer}
+use Rattle.qa_scan.proofs.Lexing.{ends_then, then, lexes_nothing, one_space, lexes_begin_array, lexes_comma, lexes_end_array, lexes_integer}
 use Rattle.qa_scan.specs.Short.{IsShort, AreTwoCodes}
 use Rattle.std.proofs.lemmas.List.{drop_more}
 use Rattle.json.specs.Word.{ends_word}
@@ -140,7 +140,7 @@ have_more [] r = refl
 have_more (q ∷ rs) r = refl
 
 pub ranges_begin : (bytes rest : List ℕ) → Lexes bytes rest (token tokens.begin_array ∷ []) → FollowsRanges [] bytes rest
-ranges_begin bytes rest opened = record { are = tt; utf8 = opened.utf8; lexes = λ r more behind lexed. opened.lexes ∙ ap (λ ls. token tokens.begin_array ∷ ls) lexed }
+ranges_begin bytes rest opened = record { are = tt; ends = opened.ends; utf8 = opened.utf8; lexes = λ r more behind lexed. opened.lexes ∙ ap (λ ls. token tokens.begin_array ∷ ls) lexed }
 
 pub ranges_go_on : (old new : Spans) (bytes rest behind more : List ℕ) → FollowsRanges old bytes rest → TakesRange old new rest behind → Lexes behind more (comma ∷ [])
     → FollowsRanges new bytes more
@@ -148,6 +148,7 @@ ranges_go_on old new bytes rest behind more before one parted =
     let P : Spans → Type 0 = λ rs. FollowsRanges rs bytes more in
     subst P (sym one.is_new) (record {
       are = are_more old one.range before.are one.is_range;
+      ends = ends_then before.ends (ends_then one.lexed.ends parted.ends);
       utf8 = λ u. before.utf8 (one.lexed.utf8 (parted.utf8 u));
       lexes = λ r later end is.
           before.lexes one.range (r ∷ later) end
@@ -163,6 +164,7 @@ ranges_end old new bytes rest behind more before one closed =
       some = have_more old one.range;
       are = are_more old one.range before.are one.is_range;
       lexed = record {
+        ends = ends_then before.ends (ends_then one.lexed.ends closed.ends);
         lexes = before.lexes one.range [] (lex between more) (one.lexed.lexes ∙ ap (λ ls. lexemes (outline (integer_pair one.range)) ++ ls) closed.lexes);
         utf8 = λ u. before.utf8 (one.lexed.utf8 (closed.utf8 u));
       };

@@ -6,6 +6,7 @@ use Rattle.std.specs.List.{list_all}
 use Rattle.std.specs.Prelude.{IfSome}
 use Rattle.std.specs.Str.{bytes_eq}
 use Rattle.std.proofs.lemmas.Bool.{or_parts}
+use Rattle.std.proofs.lemmas.List.{length-append}
 use Rattle.std.proofs.lemmas.Map.Text.{is_eq-slice_cmp}
 use Rattle.std.proofs.lemmas.Str.{IsUtf8-nil}
 use Rattle.json.specs.Json as form
@@ -23,9 +24,9 @@ use Rattle.qa_format.specs.format.Written.{integer, string, boolean}
 use Rattle.qa_format.specs.format.Proper.{IsWord}
 use Rattle.qa_format.proofs.format.ProperReadings.{reading_fits}
 use Rattle.qa_fast_reader.specs.declared.found.Found.{Found}
-use Rattle.qa_scan.specs.Lexes.{Lexes, lexemes, members_lexemes, is_plain, IsQuoted, IsKey, deepest, IsValueOf, IsValue}
+use Rattle.qa_scan.specs.Lexes.{EndsIn, Lexes, lexemes, members_lexemes, is_plain, IsQuoted, IsKey, deepest, IsValueOf, IsValue}
 use Rattle.qa_fast_reader.specs.Found.{Holds, Keeps, Puts, Takes, TakesNothing, Follows, Ends, EndsIf, PutsIf, IsLaterKey, SaysLine, Reads, IsLineOf, IsEnd, Closes, IsMember, FollowsMembers, nothing, is_known}
-use Rattle.qa_scan.proofs.Lexing.{lexes_quoted, lexes_colon, lexes_comma, lexes_begin_object, lexes_end_object, one_return, then}
+use Rattle.qa_scan.proofs.Lexing.{lexes_quoted, lexes_colon, lexes_comma, lexes_begin_object, lexes_end_object, one_return, shorter, then}
 use Rattle.qa_fast_reader.proofs.Finding.{stays_apart}
 use Rattle.qa_fast_reader.proofs.Items.{string_member}
 use Rattle.qa_fast_reader.proofs.Reading.{json_of-lexemes, not_blank}
@@ -258,6 +259,17 @@ passes_next f whole bytes more rest ended parted takes_none before_if again =
       before = goes_on before.old f whole before.last bytes more before.before before.takes parted;
       takes = takes_none f;
     }
+
+-- which take bytes
+pub next_shorter : (bytes more rest : List ℕ) → Lexes bytes more (comma ∷ []) → TakesNothing more rest → length rest < length bytes
+next_shorter bytes more rest parted takes_none =
+    let one = takes_none nothing in
+    omega (arith, shorter bytes more comma [] parted, shorter more rest (token (tokens.string one.key)) _ one.member.lexed)
+
+-- so does a key with what stands before its value
+pub shorter_behind : (text bytes behind rest : List ℕ) → bytes ≡ (44 ∷ 34 ∷ (text ++ 34 ∷ 58 ∷ [])) ++ behind → EndsIn behind rest → length rest < length bytes
+shorter_behind text bytes behind rest is ends =
+    omega (arith, ap length is, length-append (text ++ 34 ∷ 58 ∷ []) behind, ap length ends.1, length-append ends.0 rest)
 
 -- the brace that closes the object behind it
 pub last_member : (new : Found) (o : Option Line) (whole rest : List ℕ) → EndsIf new whole rest → IsEnd rest → IfSome o (λ l. SaysLine new l) → Reads whole o

@@ -9,7 +9,8 @@ use Rattle.json.specs.Tree.{depth}
 use Rattle.serde_json.specs.Data as json
 use Rattle.serde_json.specs.Data.{Data}
 use Rattle.serde_json.specs.Read.{of_json, of_items, of_members}
-use Rattle.qa_scan.specs.Lexes.{Lexes, lexemes, items_lexemes, members_lexemes, IsValueWithin}
+use Rattle.qa_scan.specs.Lexes.{EndsIn, Lexes, lexemes, items_lexemes, members_lexemes}
+use Rattle.qa_scan.specs.Lexes.{IsValueWithin}
 
 -- the bytes are a text of this value, which is no list and no object, and the rest
 abbrev pub IsSimpleOf : Data → List ℕ → List ℕ → Type 0
@@ -34,6 +35,7 @@ pub record IsValueBefore (d : ℕ) (value : Data) (ls : List Lexeme) (bytes : Li
 -- a list's values before the rest are these: if the rest is more values, with which the list nests
 -- no deeper than so, then the bytes are the list of all
 pub record FollowsItems (d : ℕ) (seen : List Data) (bytes rest : List ℕ) : Type 0 where
+  pub ends : EndsIn bytes rest
   pub utf8 : IsUtf8 rest → IsUtf8 bytes
   pub reads : (j : Json) (js : form.Items) (values : json.Items) (behind : List Lexeme)
       → depth (form.array (form.item j js)) ≤ d → of_items (form.item j js) ≡ Some values
@@ -42,6 +44,7 @@ pub record FollowsItems (d : ℕ) (seen : List Data) (bytes rest : List ℕ) : T
 
 -- the same of an object's members
 pub record FollowsMembersWithin (d : ℕ) (seen : json.Members) (bytes rest : List ℕ) : Type 0 where
+  pub ends : EndsIn bytes rest
   pub utf8 : IsUtf8 rest → IsUtf8 bytes
   pub reads : (key : List ℕ) (j : Json) (ms : form.Members) (all : json.Members)
       (behind : List Lexeme)

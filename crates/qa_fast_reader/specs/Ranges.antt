@@ -10,7 +10,7 @@ use Rattle.serde_json.specs.Written.{outline, items_outline}
 use Rattle.qa_base.specs.values.Events.{has_ranges}
 use Rattle.qa_format.specs.format.Proper.{IsRange}
 use Rattle.qa_format.specs.format.Written.{integer_pair, integer_pairs}
-use Rattle.qa_scan.specs.Lexes.{Lexes, lexemes, items_lexemes}
+use Rattle.qa_scan.specs.Lexes.{EndsIn, Lexes, lexemes, items_lexemes}
 
 abbrev pub Spans : Type 0
 Spans = List (ℕ × ℕ)
@@ -45,6 +45,7 @@ pub record TakesRanges (ranges : Spans) (bytes rest : List ℕ) : Type 0 where
 -- the ranges before the rest were found: if the rest is more ranges, then the bytes are the list of
 -- all
 pub record FollowsRanges (ranges : Spans) (bytes rest : List ℕ) : Type 0 where
+  pub ends : EndsIn bytes rest
   pub are : AllByRecursion IsRange ranges
   pub utf8 : IsUtf8 rest → IsUtf8 bytes
   pub lexes : (range : ℕ × ℕ) (more : Spans) (behind : List Lexeme)

@@ -14,8 +14,8 @@ use std::alloc::Global;
 /// The form is one object with the keys of an event, each with a value of its kind or null, and any
 /// other keys, with any values that nest no deeper than JSON may. Lines in a usual order
 /// (`usual_line`) are read here too, and more quickly there. A line with a fault is never of this
-/// form, and neither are a header and a blank line. Only ranges take memory, and false comes where
-/// it was refused. What stands in `into` after false is no line of these bytes.
+/// form, and neither are a header and a blank line. Only ranges take memory, and false comes if it
+/// was refused. After false nothing is said of `into`.
 #[inline(always)]
 pub fn other_line(alloc: Global, bytes: &[u8], into: &mut Line) -> bool
     ensures { result ≡ true → IsLineOf bytes.now into.new }

@@ -1,6 +1,6 @@
 //! Reports of the sender's state, without white space. What stands behind their kind may stand in
 //! any order, as logs have it.
-ghost use Rattle.std.specs.Prelude.{◌≡◌, ◌∷◌, ◌++◌, [], IfSome};
+ghost use Rattle.std.specs.Prelude.{◌≡◌, ◌<◌, ◌∷◌, ◌++◌, [], IfSome, length};
 ghost use Rattle.qa_base.specs.values.Names.{key_name};
 ghost use Rattle.qa_format.specs.format.Written as written;
 ghost use Rattle.qa_fast_reader.specs.Found.{Continues, EndsIf, IsNextKey, Keeps, Reads, nothing};
@@ -104,7 +104,8 @@ impl Found {
     #[inline(always)]
     fn reported_at<'a>(&mut self, bytes: &'a [u8], key: Key, place: usize) -> Option<&'a [u8]>
         requires { IsNextKey (key_name key) bytes.now place }
-        ensures { IfSome result (λ rest. Continues self.old self.new bytes.now rest.now) }
+        ensures found { IfSome result (λ rest. Continues self.old self.new bytes.now rest.now) }
+        ensures shorter { IfSome result (λ rest. length rest.now < length bytes.now) }
     {
         let (value, rest) = open_integer_at(bytes, place)?;
         self.put(key, value)?;

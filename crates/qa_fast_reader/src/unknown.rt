@@ -1,5 +1,5 @@
 //! Members whose key no event has.
-ghost use Rattle.std.specs.Prelude.{◌<◌, ℕ, List, IfSome};
+ghost use Rattle.std.specs.Prelude.{◌<◌, ℕ, List, IfSome, length};
 ghost use Rattle.serde_json.specs.Data.{Data, Members};
 ghost use Rattle.qa_fast_reader.specs.declared.found.Found.{Found};
 ghost use Rattle.qa_fast_reader.specs.Found.{Continues, TakesNothing};
@@ -53,7 +53,8 @@ fn some_text(bytes: &[u8]) -> Option<&[u8]>
 /// no such member.
 #[inline(never)]
 pub fn unknown_next(bytes: &[u8]) -> Option<&[u8]>
-    ensures { IfSome result (λ rest. (f : Found) → Continues f f bytes.now rest.now) }
+    ensures passes { IfSome result (λ rest. (f : Found) → Continues f f bytes.now rest.now) }
+    ensures shorter { IfSome result (λ rest. length rest.now < length bytes.now) }
 {
     if !ends_word(bytes) {
         return None;

@@ -45,6 +45,7 @@ number_at (Some n) text bytes rest is h lexed = record { text = text; number = n
 pub is_number : (text bytes rest : List ℕ) → print.IsNumber text → IsUtf8 text → is_some (number_of text) ≡ true → ends_word rest ≡ true → bytes ≡ text ++ rest → IsNumber bytes rest
 is_number text bytes rest form utf8 read ended is =
     number_at (number_of text) text bytes rest refl read (record {
+      ends = (text, is);
       lexes = ap (lex between) is ∙ lex-number text rest form ended;
       utf8 = λ u. subst IsUtf8 (sym is) (IsUtf8-append text rest utf8 u);
     })

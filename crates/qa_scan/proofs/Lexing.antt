@@ -3,7 +3,7 @@ use Rattle.std.proofs.Common.{◌≡◌, ◌∙◌, inl, inr, ℕ, ◌+◌, ◌<
 use Rattle.std.specs.List.{list_all}
 use Rattle.std.proofs.lemmas.Bool.{and_parts, or_cases, eqb-true, leb-true, ne_eqb, le-ltb, not-true, eqb-false}
 use Rattle.std.proofs.lemmas.Fmt.{IsAscii-decimal}
-use Rattle.std.proofs.lemmas.List.{drop_more}
+use Rattle.std.proofs.lemmas.List.{drop_more, length-append}
 use Rattle.std.proofs.lemmas.Str.{IsUtf8-append, IsUtf8-nil, IsUtf8-from_ascii}
 use Rattle.json.specs.Text.{content, plain, prepend}
 use Rattle.json.specs.Token as tokens
@@ -15,15 +15,20 @@ use Rattle.serde_json.specs.Written.{compact_text}
 use Rattle.qa_format.specs.format.Simple.{is_ascii}
 use Rattle.qa_format.specs.format.Written.{boolean}
 use Rattle.qa_format.proofs.format.Compact.{IsUtf8-is_ascii}
-use Rattle.qa_scan.specs.Lexes.{Lexes, is_plain, IsQuoted}
+use Rattle.qa_scan.specs.Lexes.{EndsIn, Lexes, is_plain, IsQuoted}
 
 -- ---- one after another
 
+-- bytes that end in others end in what those end in
+pub ends_then : {bytes middle rest : List ℕ} → EndsIn bytes middle → EndsIn middle rest → EndsIn bytes rest
+ends_then {bytes} {middle} {rest} first second = (first.0 ++ second.0, first.1 ∙ ap (λ l. first.0 ++ l) second.1 ∙ sym (append_assoc first.0 second.0 rest))
+
 pub lexes_nothing : (bytes : List ℕ) → Lexes bytes bytes []
-lexes_nothing bytes = record { lexes = refl; utf8 = λ u. u }
+lexes_nothing bytes = record { ends = ([], refl); lexes = refl; utf8 = λ u. u }
 
 pub then : {bytes middle rest : List ℕ} {ls ms : List Lexeme} → Lexes bytes middle ls → Lexes middle rest ms → Lexes bytes rest (ls ++ ms)
 then {bytes} {middle} {rest} {ls} {ms} first second = record {
+  ends = ends_then first.ends second.ends;
   lexes = first.lexes ∙ ap (λ l. ls ++ l) second.lexes ∙ sym (append_assoc ls ms (lex between rest));
   utf8 = λ u. first.utf8 (second.utf8 u);
 }
@@ -31,9 +36,20 @@ then {bytes} {middle} {rest} {ls} {ms} first second = record {
 -- ASCII before the rest, whose lexemes are known whatever the rest is
 pub ascii_word : (w : List ℕ) (ls : List Lexeme) (bytes rest : List ℕ) → is_ascii w ≡ true → lex between (w ++ rest) ≡ ls ++ lex between rest → bytes ≡ w ++ rest → Lexes bytes rest ls
 ascii_word w ls bytes rest ascii lexed is = record {
+  ends = (w, is);
   lexes = ap (lex between) is ∙ lexed;
   utf8 = λ u. subst IsUtf8 (sym is) (IsUtf8-append w rest (IsUtf8-is_ascii w ascii) u);
 }
+
+-- a lexeme takes a byte at least: without one the lexemes of the rest would be more than themselves
+shorter_by : (front bytes rest : List ℕ) (l : Lexeme) (ls : List Lexeme) → bytes ≡ front ++ rest → lex between bytes ≡ (l ∷ ls) ++ lex between rest → length rest < length bytes
+shorter_by [] bytes rest l ls is lexed =
+    let same : lex between rest ≡ l ∷ (ls ++ lex between rest) = sym (ap (lex between) is) ∙ lexed in
+    omega (arith, ap length same, length-append ls (lex between rest))
+shorter_by (x ∷ front) bytes rest l ls is lexed = omega (arith, ap length is, length-append front rest)
+
+pub shorter : (bytes rest : List ℕ) (l : Lexeme) (ls : List Lexeme) → Lexes bytes rest (l ∷ ls) → length rest < length bytes
+shorter bytes rest l ls one = shorter_by one.ends.0 bytes rest l ls one.ends.1 one.lexes
 
 -- ---- operators
 
@@ -144,6 +160,7 @@ plain_utf8 (x ∷ s) h =
 pub lexes_quoted : (text bytes rest : List ℕ) → list_all is_plain text ≡ true → IsQuoted text bytes rest → Lexes bytes rest (token (tokens.string text) ∷ [])
 unfolding lex
 lexes_quoted text bytes rest all_plain is = record {
+  ends = (34 ∷ (text ++ 34 ∷ []), is ∙ ap (λ l. 34 ∷ l) (sym (append_assoc text (34 ∷ []) rest)));
   lexes = ap (lex between) is ∙ ap₂ (λ o l. token (string_token o) ∷ l) (content_is text rest all_plain) (passed text rest all_plain);
   utf8 = λ u. subst IsUtf8 (sym is) (IsUtf8-append (34 ∷ []) _ (IsUtf8-is_ascii _ refl) (IsUtf8-append text _ (plain_utf8 text all_plain) (IsUtf8-append (34 ∷ []) rest (IsUtf8-is_ascii _ refl) u)));
 }
@@ -152,6 +169,7 @@ lexes_quoted text bytes rest all_plain is = record {
 
 pub lexes_integer : (n : ℕ) (bytes rest : List ℕ) → n < 2 ^ 64 → ends_word rest ≡ true → bytes ≡ decimal n ++ rest → Lexes bytes rest (token (tokens.number (decimal n)) ∷ [])
 lexes_integer n bytes rest small ended is = record {
+  ends = (decimal n, is);
   lexes = ap (lex between) is ∙ lex-number (decimal n) rest (IsNumber-decimal n small) ended;
   utf8 = λ u. subst IsUtf8 (sym is) (IsUtf8-append (decimal n) rest (IsUtf8-from_ascii (decimal n) (IsAscii-decimal n small)) u);
 }

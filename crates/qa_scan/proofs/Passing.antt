@@ -296,6 +296,7 @@ is_string bytes inside rest i opens part closes =
     let passed = part.passes in record {
       text = passed.text;
       lexed = record {
+        ends = (34 ∷ (take i inside ++ 34 ∷ []), opens ∙ ap (λ l. 34 ∷ l) (sym (take-append-drop i inside) ∙ ap (λ l. take i inside ++ l) closes ∙ sym (append_assoc (take i inside) (34 ∷ []) rest)));
         lexes = quoted bytes inside (drop i inside) rest passed.text opens passed.reads passed.lexes closes;
         utf8 = λ u. subst IsUtf8 (sym opens) (IsUtf8-append (34 ∷ []) inside (IsUtf8-is_ascii _ refl)
             (passed.utf8 (subst IsUtf8 (sym closes) (IsUtf8-append (34 ∷ []) rest (IsUtf8-is_ascii _ refl) u))));

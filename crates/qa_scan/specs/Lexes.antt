@@ -10,9 +10,13 @@ use Rattle.json.specs.Tree.{depth}
 use Rattle.serde_json.specs.Data.{Data, Num}
 use Rattle.serde_json.specs.Read.{number_of, of_json}
 
--- the bytes are these lexemes and then what the rest is, and they are text in UTF-8 where the rest
--- is
+-- the bytes are some others, and then the rest
+abbrev pub EndsIn : List ℕ → List ℕ → Type 0
+EndsIn bytes rest = (front : List ℕ) × (bytes ≡ front ++ rest)
+
+-- the bytes are these lexemes and then the rest, and they are text in UTF-8 if the rest is
 pub record Lexes (bytes rest : List ℕ) (ls : List Lexeme) : Type 0 where
+  pub ends : EndsIn bytes rest
   pub lexes : lex between bytes ≡ ls ++ lex between rest
   pub utf8 : IsUtf8 rest → IsUtf8 bytes
 

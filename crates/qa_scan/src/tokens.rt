@@ -7,7 +7,7 @@ ghost use Rattle.json.specs.Token as tokens;
 ghost use Rattle.json.specs.Word as word;
 ghost use Rattle.serde_json.specs.Written.{compact_text};
 ghost use Rattle.qa_format.specs.format.Written as written;
-ghost use Rattle.qa_scan.specs.Lexes.{Lexes, IsPast, IsQuoted, is_plain as is_plain_byte};
+ghost use Rattle.qa_scan.specs.Lexes.{EndsIn, Lexes, IsPast, IsQuoted, is_plain as is_plain_byte};
 
 use crate::digits::{digits, digits_at};
 use crate::plain::plain_end;
@@ -175,10 +175,11 @@ pub fn open_integer(bytes: &[u8]) -> Option<(u64, &[u8])>
 #[inline(always)]
 pub fn open_integer_at(bytes: &[u8], place: usize) -> Option<(u64, &[u8])>
     requires { place ≤ length bytes.now }
-    ensures { IfSome result (λ found. (found.0 < 2 ^ 64)
+    ensures integer { IfSome result (λ found. (found.0 < 2 ^ 64)
         × (word.ends_word found.1.now ≡ true
         → Lexes (drop place bytes.now) found.1.now
         (token (tokens.number (decimal found.0)) ∷ []))) }
+    ensures ends { IfSome result (λ found. EndsIn (drop place bytes.now) found.1.now) }
 {
     digits_at(bytes, place)
 }

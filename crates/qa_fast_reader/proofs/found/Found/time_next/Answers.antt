@@ -16,4 +16,4 @@ returns c whole =
     let behind = c.in_ok-after.field-0.now in
     let rest = c.in_ok-value.rest.now in
     next_if (codes "time") c.args.self.now _ whole c.args.bytes.now behind rest refl c.in_ok-after.ensures
-    (λ ended. record { value = integer n; is = integer_value n behind rest c.in_ok-value.ensures.0 (subst (λ (l : List ℕ). Lexes l rest (token (tokens.number (decimal n)) ∷ [])) (ap (drop 8) c.in_ok-after.ensures) (c.in_ok-value.ensures.1 ended)); keeps = put_time c.args.self.now n })
+    (λ ended. record { value = integer n; is = integer_value n behind rest c.in_ok-value.ensures.integer.0 (subst (λ (l : List ℕ). Lexes l rest (token (tokens.number (decimal n)) ∷ [])) (ap (drop 8) c.in_ok-after.ensures) (c.in_ok-value.ensures.integer.1 ended)); keeps = put_time c.args.self.now n })
