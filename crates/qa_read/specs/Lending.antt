@@ -2,7 +2,7 @@
 use Rattle.std.specs.Prelude.{◌≡◌, ℕ, List, Option, Some, Result, Err, IfSome, IfNone, IfOk, IfErr}
 use Rattle.std.specs.Borrow.{Fml, Bor, MutBor}
 use Rattle.std.specs.Io.BufRead.{Rests}
-use Rattle.qa_read.specs.declared.split.SplitFault.{SplitFault}
+use Rattle.qa_read.specs.declared.cut.SplitFault.{SplitFault}
 use Rattle.qa_read.specs.contracts.split.Splitter.{the_row}
 use Rattle.qa_read.specs.Stream.{Stream, TakesLine, HasNoLine}
 

@@ -1,3 +1,5 @@
+pub mod Cuts
+pub mod Cutting
 pub mod Gives
 pub mod Lending
 pub mod Stream

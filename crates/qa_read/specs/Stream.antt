@@ -1,8 +1,8 @@
 -- What a splitter holds, and how it gives a line.
-use Rattle.std.specs.Prelude.{◌≡◌, ◌⊎◌, ◌<◌, ◌≤◌, ◌+◌, ◌++◌, ℕ, Bool, true, false, List, [], ◌∷◌}
-use Rattle.std.specs.Prelude.{length, take, drop, Option, None}
+use Rattle.std.specs.Prelude.{◌≡◌, ◌⊎◌, ◌<◌, ◌++◌, ℕ, Bool, true, false, List, [], ◌∷◌}
+use Rattle.std.specs.Prelude.{length, Option, None}
 use Rattle.qa_format.specs.format.Lines.{has_lf, line_limit, IsShortLine}
-use Rattle.qa_read.specs.declared.split.SplitFault.{SplitFault}
+use Rattle.qa_read.specs.declared.cut.SplitFault.{SplitFault}
 
 -- the bytes that were fed and not returned yet, whether no more come, and the error with which it
 -- failed
@@ -36,14 +36,3 @@ BeginsTooLong bytes =
 -- no line stands ready
 abbrev pub HasNoLine : Stream → Type 0
 HasNoLine s = IsShortLine s.bytes × (s.closed ≡ true → s.bytes ≡ [])
-
--- the first n bytes have no LF
-pub record AreSearched (bytes : List ℕ) (n : ℕ) : Type 0 where
-  pub within : n ≤ length bytes
-  pub none : has_lf (take n bytes) ≡ false
-
--- the first LF of the bytes stands at n
-pub record IsFirstLf (bytes : List ℕ) (n : ℕ) : Type 0 where
-  pub within : n < length bytes
-  pub before : has_lf (take n bytes) ≡ false
-  pub parts : IsFirstLine bytes (take n bytes) (drop (n + 1) bytes)

@@ -2,6 +2,7 @@
 //! and the first of its faults.
 #![tactic(auto)]
 
+mod cut;
 mod fault;
 mod fields;
 mod json;
@@ -10,6 +11,7 @@ mod reader;
 mod split;
 mod tables;
 
+pub use cut::{Cutter, Place, SplitFault};
 pub use fault::LineFault;
 pub use reader::read_line;
-pub use split::{SplitFault, Splitter};
+pub use split::Splitter;

@@ -1,7 +1,7 @@
 use Rattle.std.proofs.Common.{◌≡◌, ◌∙◌, ◌+◌, ◌-◌, length, take, drop, ap, arith, length-drop, take_all}
 use lib.Seq.{paste}
 use Rattle.std.proofs.lemmas.List.Edits.{take-paste}
-use Rattle.qa_read.proofs.split.remove_front.Goals as goal
+use Rattle.qa_read.proofs.cut.remove_front.Goals as goal
 
 pub returns : goal.returns
 returns c =

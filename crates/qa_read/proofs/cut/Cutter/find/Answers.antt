@@ -1,6 +1,6 @@
 use Rattle.std.proofs.Common.{arith, rules}
 use Rattle.std.proofs.lemmas.Grind.{common_steps}
-use Rattle.qa_read.proofs.split.Splitter.next_line.Goals as goal
+use Rattle.qa_read.proofs.cut.Cutter.find.Goals as goal
 
 -- Written out, so that a wrong body is refused at these lines.
 pub returns-in-Some : goal.returns-in-Some
