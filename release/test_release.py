@@ -498,12 +498,14 @@ class Minutes(unittest.TestCase):
 
     def test_minutes_by_crate(self) -> None:
         watch = Watch(seconds={("qa_base", 1): 90.0, ("qa_base", 2): 30.0}, for_edits={2})
-        page = self.minutes.with_crates(PAGE, watch, 180.0)
+        measured = self.minutes.Measured("gate", 100, 180, 4, 0.25, "abcd")
+        page = self.minutes.with_crates(PAGE, watch, measured)
+        self.assertIn("\nCommit abcd, 4 processors:\n", page)
         self.assertIn("\n| Crate | Proof, program and tests | Edits |\n", page)
         self.assertIn("\n| `qa_base` | 1.5 | 0.5 |\n| `qa_format` |  |  |\n", page)
         self.assertIn("\n| `rt` itself, and what was not seen | 1.0 | |\n", page)
         self.assertIn("\n| all | 2.5 | 0.5 |\n", page)
-        self.assertEqual(page, self.minutes.with_crates(page, watch, 180.0))
+        self.assertEqual(page, self.minutes.with_crates(page, watch, measured))
         self.assertTrue(page.startswith("Before.\n"))
         self.assertTrue(page.endswith("\nAfter.\n"))
 
@@ -511,7 +513,8 @@ class Minutes(unittest.TestCase):
         with self.assertRaisesRegex(Exception, "has no place for the table"):
             self.minutes.said_of("run", "Before.\n")
         with self.assertRaisesRegex(Exception, "has no place for the table"):
-            self.minutes.with_crates("Before.\n", Watch(), 1.0)
+            measured = self.minutes.Measured("gate", 1, 1, 1, 0, "abcd")
+            self.minutes.with_crates("Before.\n", Watch(), measured)
 
 
 if __name__ == "__main__":
