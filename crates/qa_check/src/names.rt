@@ -11,6 +11,10 @@ use std::alloc::{AllocError, Global};
 pub fn is_hidden(character: char) -> bool
     ensures { result ≡ names.is_hidden character }
 {
+    // Mostly a name is printable ASCII.
+    if ' ' <= character && character <= '~' {
+        return false;
+    }
     character.is_control()
         || matches!(character, '\u{2028}'..='\u{2029}')
         || is_filler(character)

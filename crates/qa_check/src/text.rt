@@ -81,11 +81,15 @@ fn push_times(out: &mut String, totals: &Totals) -> Result<(), AllocError>
     push_number_line(out, "owed", totals.owed)
 }
 
+/// How many bytes the totals mostly take at most.
+const USUAL_TOTALS: usize = 192;
+
 #[tactic(auto, unfolding(qa_format::specs::verdicts::Report::totals_text))]
 fn push_totals(out: &mut String, totals: &Totals) -> Result<(), AllocError>
     ensures { OnOk result (string_bytes out.new
         ≡ string_bytes out.old ++ text.totals_text totals.now) }
 {
+    out.reserve(USUAL_TOTALS)?;
     push_bytes(out, totals)?;
     push_times(out, totals)
 }

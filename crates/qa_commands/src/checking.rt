@@ -128,13 +128,27 @@ fn check_one_of_several<'a, I: Source, O: Sink>(
     ensures failures { O.write_failures output.new
         ≡ failures_after (checking.stops result) (O.write_failures output.old) }
 {
-    let mut page = Metered::new(Vec::new(alloc));
+    let mut page = Metered::new(empty_page(alloc));
     match audit_on_page(alloc, name, input, &mut page) {
         Ok(outcome) => write_page(outcome, page.into_inner().as_slice(), output),
         Err(fault) => {
             write_heading(name, output)?;
             Err(unreported(fault, name))
         }
+    }
+}
+
+/// How many bytes a page mostly takes at most.
+const USUAL_PAGE: usize = 512;
+
+/// An empty page with room for what mostly comes onto it. If that room is refused, there is none,
+/// and whatever is put onto the page asks for its own.
+fn empty_page(alloc: Global) -> Vec<u8>
+    ensures { result.items ≡ [] }
+{
+    match Vec::with_capacity(alloc, USUAL_PAGE) {
+        Ok(page) => page,
+        Err(_) => Vec::new(alloc),
     }
 }
 
