@@ -1,0 +1,4 @@
+pub mod Marks
+pub mod Standing
+pub mod Taking
+pub mod Texts
