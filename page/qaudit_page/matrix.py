@@ -17,8 +17,9 @@ from .failure import Failure
 from .files import as_text, name_of, read, write
 from .grounds import Basis, Ground, basis_of
 from .library import resource
-from .page import Wanted, audited, filled, page_of, policy
+from .page import Wanted, audited, page_of
 from .program import Verdict, find, verdict_of, whole_verdict_of
+from .template import filled, policy
 from .texts import count, html, plural
 from .timers import are_short
 from .violations import Violation, violations_of

@@ -16,7 +16,9 @@ const AMOUNTS = [
 const METRICS = [
   'window', 'ssthresh', 'bytes_in_flight', 'latest_rtt', 'min_rtt', 'smoothed_rtt', 'rttvar',
 ];
-const byId = id => document.getElementById(id);
+// What a run has of the page, and what two runs share.
+const byId = id => document.getElementById(RUN + id);
+const shared = id => document.getElementById(id);
 
 // The values whose differences these are.
 function summed(differences) {
@@ -44,6 +46,8 @@ function unpack(said, text) {
   trace.time = summed(said.time);
   // How many of the trace's units of time are a millisecond.
   trace.scale = said.unit === 'ns' ? 1e6 : 1e3;
+  // How much later than its clock says it is drawn, in milliseconds, beside another run.
+  trace.shift = said.shift || 0;
   trace.space = Uint8Array.from(said.space, Number);
   // The place of the first line that was not judged.
   trace.limit = said.unjudged === null ? said.count : Math.max(0, said.unjudged - said.first);
@@ -279,6 +283,6 @@ function element(name, text, className) {
 }
 
 function tell(text) {
-  byId('trouble').textContent = text;
-  byId('trouble').hidden = false;
+  shared('trouble').textContent = pair ? `${trace.title}: ${text}` : text;
+  shared('trouble').hidden = false;
 }
