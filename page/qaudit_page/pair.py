@@ -14,7 +14,7 @@ from .parting import Parting, parting_of, section_of
 from .payload import packed, part_of
 from .program import find
 from .template import filled, policy, template
-from .texts import NANOSECONDS_IN_A_MILLISECOND, html
+from .texts import NANOSECONDS_IN_A_MILLISECOND, html, visible
 
 # What begins the ids of the elements of a run, and its links.
 RUNS = ("first", "second")
@@ -118,7 +118,7 @@ def blocks(runs: tuple[Told, Told], alignment: Alignment, opening: Opening) -> d
     shifts = (0, alignment.shift / NANOSECONDS_IN_A_MILLISECOND)
     for place, (run, name) in enumerate(zip(runs, RUNS, strict=True)):
         more = {
-            "title": run.wanted.name,
+            "title": visible(run.wanted.name),
             "shift": shifts[place],
             "opens": opening.lines[place],
             "zooms": opening.of == place,

@@ -204,6 +204,8 @@ class Parting(Browsing):
         self.assertIsNone(self.browser.run("return window.pwned ?? null"))
         self.assertIn("<script>window.pwned=1", self.text("#parting"))
         self.assertIn("<img src=x", self.text("#first-panel .other"))
+        self.assertIn("\\u{202e}", self.text("#first-panel .other"))
+        self.assertNotIn("\u202e", self.browser.run("return document.body.innerText"))
         count = "return document.querySelectorAll('img, svg').length"
         self.assertEqual(self.browser.run(count), 0)
 

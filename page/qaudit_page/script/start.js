@@ -19,6 +19,9 @@ function widthOfLabels() {
 // The packets are drawn from the columns; dygraphs has the ends of the axis only.
 const ends = () => [[view.low, 0], [view.high, 0]];
 
+// What a diagram has until it is drawn for the first time.
+const noRows = series => ends().map(([x]) => [x, ...new Array(series).fill(null)]);
+
 function options(more) {
   return {
     legend: 'never', showLabelsOnHighlight: false, highlightCircleSize: 0, stepPlot: true,
@@ -56,15 +59,15 @@ function makeCharts() {
     axes: {x, y: {...y, ticker}},
   }));
   const tickerOf = (range, unit) => (a, b, pixels) => axisTicks(range(), pixels, unit);
-  charts.window = new Dygraph(byId('chart-window'), rowsOf(lines.window, 200), options({
+  charts.window = new Dygraph(byId('chart-window'), noRows(4), options({
     labels: ['x', 'window', 'ssthresh', 'flight', 'marks'], ...toneOfAxes(),
     series: seriesOfWindow(), axes: {x: {...x, drawAxis: false}, y: {...y, ticker: tickerOf(() => windowRange, 'B')}},
   }));
-  charts.headroom = new Dygraph(byId('chart-headroom'), rowsOf(lines.headroom, 200), options({
+  charts.headroom = new Dygraph(byId('chart-headroom'), noRows(2), options({
     labels: ['x', 'headroom', 'marks'], ...toneOfAxes(), series: seriesOfHeadroom(),
     axes: {x: {...x, drawAxis: false}, y: {...y, ticker: () => roomTicks}},
   }));
-  charts.rtt = new Dygraph(byId('chart-rtt'), rowsOf(lines.rtt, 200), options({
+  charts.rtt = new Dygraph(byId('chart-rtt'), noRows(4), options({
     labels: ['x', 'smoothed', 'latest', 'least', 'marks'],
     ...toneOfAxes(), series: seriesOfRtt(), axes: {x, y: {...y, ticker: tickerOf(() => rttRange, 'ms')}},
     xlabel: nameOfAxis(),

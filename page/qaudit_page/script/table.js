@@ -31,7 +31,7 @@ function timerAt(place) {
 }
 
 const hasState = place => place < trace.limit && trace.state.rowOf[place] >= 0;
-const hasTime = place => !'hbu'.includes(trace.kind[place]);
+const hasTime = place => trace.timed[place] === 1;
 
 // What the verdict is of a line, where it is not that the line is good.
 function standing(place) {

@@ -24,10 +24,10 @@ let frameWanted = 0, frames = 0, lastFrame = 0;
 
 // The x of each line: its time in milliseconds, which never falls here, or its number.
 function setAxis() {
-  const {count, first, kind, time, scale} = trace;
+  const {count, first, time, scale} = trace;
   const x = new Float64Array(count);
   let begin = 0;
-  while (begin < count - 1 && 'hbu'.includes(kind[begin])) begin++;
+  while (begin < count - 1 && !hasTime(begin)) begin++;
   let latest = count ? time[begin] / scale : 0;
   for (let i = 0; i < count; i++) {
     if (i > begin && time[i] / scale > latest) latest = time[i] / scale;
@@ -142,11 +142,12 @@ function update() {
   if (frameWanted) cancelAnimationFrame(frameWanted);
   frameWanted = 0;
   const begun = performance.now();
+  // First what asks for sizes, before anything changes them.
+  updateStrip();
   updatePackets();
   updateWindow();
   updateHeadroom();
   updateRtt();
-  updateStrip();
   moveCursors();
   lastFrame = performance.now() - begun;
   frames++;
