@@ -10,13 +10,17 @@ from typing import IO, NoReturn
 from .failure import Failure, Status
 from .files import STANDARD_INPUT, STDIN, write
 from .page import Wanted, page_of
+from .pair import page_of_two
 from .streams import ended
 from .texts import visible
 from .version import version
 
 DESCRIPTION = """\
 Makes a page of a trace: one HTML file with the verdict of qaudit and diagrams of the run. It opens
-in any browser, without a server or a network."""
+in any browser, without a server or a network. Two traces come onto one time axis: the client and
+the server of a connection, or two runs of one stack."""
+# So many traces a page has at most.
+MOST_TRACES = 2
 ENDING = """\
 The exit status is 0 if the page is written, 2 if the trace is more than a page takes, 3 if a file,
 a program or dygraphs is missing or failed, and 64 for wrong arguments."""
@@ -59,30 +63,40 @@ def add_shared(parser: argparse.ArgumentParser) -> None:
 def arguments() -> argparse.Namespace:
     """What the command is told."""
     parser = Parser(prog="qaudit-page", description=DESCRIPTION, epilog=ENDING)
-    text = "the first line to show"
+    text = "the first line to show, of each trace"
     parser.add_argument("--from", dest="first", type=line, metavar="N", help=text)
-    text = "the last line to show"
+    text = "the last line to show, of each trace"
     parser.add_argument("--to", dest="last", type=line, metavar="N", help=text)
-    text = "the title of the page (default: the name of the file)"
+    text = "the title of the page (default: the name of the file, or of both)"
     parser.add_argument("--title", metavar="TEXT", help=text)
     text = "the file to write (default: standard output)"
     parser.add_argument("--output", type=Path, metavar="FILE", help=text)
     add_shared(parser)
-    text = "the trace, which gzip, xz or zstd may have compressed (default: standard input)"
-    parser.add_argument("trace", type=Path, metavar="TRACE", nargs="?", help=text)
-    return parser.parse_args()
+    text = (
+        "the trace, which gzip, xz or zstd may have compressed (default: standard input), or two:"
+        " both ends of a connection, or two runs"
+    )
+    parser.add_argument("traces", type=Path, metavar="TRACE", nargs="*", help=text)
+    given = parser.parse_args()
+    if len(given.traces) > MOST_TRACES:
+        parser.error(f"a page has one trace or {MOST_TRACES}, and not {len(given.traces)}")
+    return given
+
+
+def text_of(given: argparse.Namespace) -> str:
+    """The page of one trace, or of two."""
+    trace, *more = given.traces or [None]
+    wanted = Wanted(trace, given.program, given.dygraphs, given.title, given.first, given.last)
+    return page_of_two(wanted, (trace, more[0])) if more else page_of(wanted).text
 
 
 def main() -> Status:
     """Writes the page."""
     given = arguments()
-    if given.trace is None and os.isatty(STDIN):
+    if not given.traces and os.isatty(STDIN):
         print(f"qaudit-page: reading {STANDARD_INPUT}", file=sys.stderr)
-    wanted = Wanted(
-        given.trace, given.program, given.dygraphs, given.title, given.first, given.last
-    )
     try:
-        write(given.output, page_of(wanted).text)
+        write(given.output, text_of(given))
     except Failure as failure:
         print(f"qaudit-page: {visible(str(failure))}", file=sys.stderr)
         return failure.status

@@ -46,8 +46,19 @@ MODULES = (
 
 def script() -> str:
     """The script of a page."""
-    parts = [resource(f"script/{name}.js") for name in MODULES]
-    return "'use strict';\n(() => {\n" + "\n".join(parts) + "})();\n"
+    return f"'use strict';\n(() => {{\nconst RUN = '', pair = null;\n{modules()}}})();\n"
+
+
+def script_of_pair() -> str:
+    """The script of a page of two runs, which runs it twice. `RUN` begins what a run has in the
+    page."""
+    runs = f"for (const RUN of ['first-', 'second-']) {{\n{modules()}}}\n"
+    return f"'use strict';\n(() => {{\n{resource('script/pair.js')}\n{runs}}})();\n"
+
+
+def modules() -> str:
+    """What the script of a page does for one run."""
+    return "\n".join(resource(f"script/{name}.js") for name in MODULES)
 
 
 def licence() -> str:

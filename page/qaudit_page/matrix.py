@@ -17,8 +17,9 @@ from .failure import Failure
 from .files import as_text, name_of, read, write
 from .grounds import Basis, Ground, basis_of
 from .library import resource
-from .page import Wanted, audited, filled, page_of, policy
+from .page import Wanted, audited, page_of
 from .program import Verdict, find, verdict_of, whole_verdict_of
+from .template import filled, policy
 from .texts import count, html, plural
 from .timers import are_short
 from .violations import Violation, violations_of
@@ -33,6 +34,8 @@ NOTE_OF_ALLOWANCES = (
     " amounts and the lines.</p>"
 )
 KINDS = (ACCEPTED, WITH_ALLOWANCES, "refused", "unreadable", FAILED)
+# The classes of verdicts in the style, if they are others than their words.
+CLASSES = {WITH_ALLOWANCES: AMBER}
 ENDING = ".trace"
 # The form of the file of verdicts that later ones are compared with.
 VERSION = 1
@@ -283,21 +286,29 @@ def recorded(results: list[Result], named: re.Pattern[str] | None) -> str:
 
 def told_before(path: Path) -> Before:
     """The verdicts of a run before."""
+    results, lacking = results_in(path)
+    unclear = lacking & {it.key for it in results if it.kind == ACCEPTED}
+    return Before({it.key: it.told for it in results}, frozenset(unclear))
+
+
+def results_in(path: Path) -> tuple[list[Result], set[str]]:
+    """The results of a run before, and the keys of those that do not say whether a trace was
+    accepted with allowances."""
     try:
         said: Any = json.loads(read(path))
         if said["version"] != VERSION:
             raise ValueError("another version")
-        fields = ("key", "kind", "line", "rule", "name")
-        results = [
-            Result(**{name: it[name] for name in fields}, with_allowances=is_allowed(it))
-            for it in said["traces"]
-        ]
-        lacking = [it["key"] for it in said["traces"] if "with_allowances" not in it]
-    except (ValueError, KeyError, TypeError) as fault:
+        results = [result_of(it) for it in said["traces"]]
+        return results, {it["key"] for it in said["traces"] if "with_allowances" not in it}
+    except (ValueError, KeyError, TypeError, AttributeError, RecursionError) as fault:
         text = f"{as_text(path)} is not what qaudit-matrix --json writes: {fault}"
         raise Failure(text) from fault
-    unclear = set(lacking) & {it.key for it in results if it.kind == ACCEPTED}
-    return Before({it.key: it.told for it in results}, frozenset(unclear))
+
+
+def result_of(said: Any) -> Result:
+    """A result as it was recorded."""
+    key, kind, rule, name = (str(said[it]) for it in ("key", "kind", "rule", "name"))
+    return Result(key, kind, int(said["line"]), rule, name, with_allowances=is_allowed(said))
 
 
 def is_allowed(said: Any) -> bool:
@@ -313,8 +324,10 @@ def table(
     named: re.Pattern[str] | None,
     beside: Path,
     since: str,
+    nights: str = "",
 ) -> str:
-    """The page with the table, which will lie in a folder, with what is new."""
+    """The page with the table, which will lie in a folder, with what is new, and how it went over
+    several runs."""
     style = resource("matrix.css")
     total = Counter(result.word for result in results)
     return filled(
@@ -327,12 +340,17 @@ def table(
         CHANGES=since,
         TABLE=cells(results, named, beside),
         RULES=rules(results),
+        NIGHTS=nights,
     )
 
 
 def counted(by_kind: Counter[str]) -> str:
-    """How many came to which verdict."""
-    return ", ".join(f"{count(by_kind[kind])} {kind}" for kind in KINDS if by_kind[kind])
+    """How many came to which verdict, each in its colour."""
+    return ", ".join(
+        f'<b class="{CLASSES.get(kind, kind)}">{count(by_kind[kind])} {kind}</b>'
+        for kind in KINDS
+        if by_kind[kind]
+    )
 
 
 def changes_shown(changes: list[Change], before: Before) -> str:
@@ -389,8 +407,9 @@ def cells(results: list[Result], named: re.Pattern[str] | None, beside: Path) ->
 
 
 def cell(result: Result, beside: Path) -> str:
-    """A trace in the table: a sign, a word, the first rule and its line, and a link to its page."""
-    kind = AMBER if result.with_allowances else result.kind
+    """A trace in the table: a sign, a word, the first rule and its line, and a link to its page, at
+    that line."""
+    kind = CLASSES.get(result.word, result.kind)
     told = f"{MARKS.get(kind, '!')} {result.word}"
     if result.with_allowances:
         told += f"<small>{html(', '.join(result.rests_on))}</small>"
@@ -404,7 +423,8 @@ def cell(result: Result, beside: Path) -> str:
     if not result.page:
         return f"<span {about}>{told}</span>"
     link = quote(os.path.relpath(os.fsencode(result.page), os.fsencode(beside)))
-    return f'<a {about} href="{html(link)}">{told}</a>'
+    at = f"#line={result.line}" if result.line else ""
+    return f'<a {about} href="{html(link)}{at}">{told}</a>'
 
 
 def rules(results: list[Result]) -> str:

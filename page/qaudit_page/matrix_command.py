@@ -14,6 +14,7 @@ from .ci import Listed, annotations, junit, sarif
 from .command import Parser, add_shared, interrupted
 from .failure import Failure, Status
 from .files import as_text, reason_of, write
+from .history import Night, history, runs_in
 from .known import Known, Seen, compared, known_by, known_in
 from .known import written as known_text
 from .library import dygraphs
@@ -49,6 +50,8 @@ is 0 if every violation is known, and 1 if one is new."""
 WIDTH = 40
 # How many processes may be started for each processor.
 MOST_A_CORE = 4
+# What this run is called among earlier ones, if it has no file.
+THIS_RUN = "this run"
 BAD_IN_NAMES = re.compile(r"[^A-Za-z0-9._-]+")
 
 
@@ -71,6 +74,8 @@ def arguments() -> argparse.Namespace:
     parser.add_argument("--json", type=Path, metavar="FILE", help=text)
     text = "what --json wrote in an earlier run: shows what is new and what is gone"
     parser.add_argument("--against", type=Path, metavar="OLD.json", help=text)
+    text = "a directory of what --json wrote in earlier runs: shows how it went over these"
+    parser.add_argument("--history", type=Path, metavar="DIR", help=text)
     text = "violations that are known, by case, stacks, rule and field: only new ones fail"
     parser.add_argument("--known", type=Path, metavar="FILE", help=text)
     text = "writes all violations of this run into the file of --known"
@@ -251,13 +256,18 @@ def main() -> Status:
     changes, since = None, ""
     try:
         before = told_before(given.against) if given.against else None
+        earlier = runs_in(given.history, given.json) if given.history else []
         ci = Ci(given)
         results = results_of(given)
         if before is not None:
             changes = changes_of(results, before)
             since = changes_shown(changes, before)
         beside = given.output.parent if given.output else Path()
-        write(given.output, table(results, given.pattern, beside, since))
+        nights = ""
+        if given.history:
+            name = given.json.stem if given.json else THIS_RUN
+            nights = history([*earlier, Night(name, results)], given.pattern)
+        write(given.output, table(results, given.pattern, beside, since, nights))
         if given.json:
             write(given.json, recorded(results, given.pattern))
         new = ci.write(results)

@@ -1,8 +1,6 @@
 """A page of a trace: one HTML file with its script, its style and its data."""
 
-import base64
 import gc
-import hashlib
 import json
 from collections.abc import Iterator
 from concurrent.futures import ThreadPoolExecutor
@@ -20,9 +18,20 @@ from .grounds import Basis, basis_of
 from .held import held_after
 from .library import dygraphs, licence, resource, script
 from .payload import Part, packed, part_of, payload, shown, text_of
-from .program import PAST, STRICT, Mode, Run, UnknownOptionError, Verdict, find, verdict_by
+from .program import (
+    PAST,
+    STRICT,
+    Mode,
+    Object,
+    Run,
+    UnknownOptionError,
+    Verdict,
+    find,
+    verdict_by,
+)
 from .rows import rows_by
 from .silences import section_of as silences_of
+from .template import filled, policy, template
 from .texts import count, html, milliseconds, pairs, plural
 from .timers import Silence, are_short, longest_silences
 from .trace import Trace, trace_of
@@ -111,42 +120,69 @@ def without_collector() -> Iterator[None]:
             gc.enable()
 
 
+class Told:
+    """What a page has to say of a trace, before it is made."""
+
+    def __init__(self, wanted: Wanted, trace: Trace, verdict: Verdict, part: Part) -> None:
+        self.wanted, self.trace, self.verdict, self.part = wanted, trace, verdict, part
+        self.basis = basis_by(trace, verdict)
+        self.silences = longest_silences(trace, verdict.first_unjudged)
+        self.silence = self.silences[0] if self.silences else None
+        self.opens = opening_of(verdict, self.basis, self.silence, trace)
+        self.held = held_after(trace)
+        self.notes = notes_of(trace.lines, verdict)
+
+    @property
+    def title(self) -> str:
+        """The verdict in a few words."""
+        return title_of(self.verdict, self.basis)
+
+    def texts(self) -> dict[str, str]:
+        """What is seen without a script, by the places of the template."""
+        trace, verdict, basis = self.trace, self.verdict, self.basis
+        kind = kind_of(verdict, basis)
+        return {
+            "KIND": kind,
+            "MARK": MARKS[kind],
+            "BANNER": banner(verdict, basis, self.silence, trace.unit),
+            "FACTS": pairs(facts_of(verdict.said, trace.unit)),
+            "CONVERTED": "".join(f'<p class="note">{html(note)}</p>' for note in self.notes),
+            "QUOTE": quote(trace, verdict),
+            "DEPARTURES": section_of(verdict, basis, trace.unit),
+            "SILENCES": silences_of(self.silences, trace, self.held),
+            "OVERVIEW": pairs(overview(self.wanted, trace, verdict, self.part)),
+            "OPTIONS": pairs(options(trace)),
+        }
+
+    def packed(self, more: Object) -> tuple[str, str]:
+        """What the script draws, with what else it is to know, and the lines."""
+        with ThreadPoolExecutor() as pool:
+            lines = pool.submit(lambda: packed(text_of(self.trace, self.part)))
+            columns = payload(self.trace, self.verdict, self.part, self.held)
+            data = packed(json.dumps(columns | more, separators=(",", ":")))
+            return data, lines.result()
+
+
 def written(wanted: Wanted, library: str, trace: Trace, verdict: Verdict, part: Part) -> Made:
     """The whole page."""
-    basis, silences = basis_by(trace, verdict), longest_silences(trace, verdict.first_unjudged)
-    silence = silences[0] if silences else None
-    opens, held = opening_of(verdict, basis, silence, trace), held_after(trace)
-    with ThreadPoolExecutor() as pool:
-        lines = pool.submit(lambda: packed(text_of(trace, part)))
-        columns = payload(trace, verdict, part, held) | {"opens": opens}
-        data = packed(json.dumps(columns, separators=(",", ":")))
-        text = lines.result()
+    told = Told(wanted, trace, verdict, part)
+    data, text = told.packed({"opens": told.opens})
     style, own, loader = resource("page.css"), script(), resource("script/load.js")
-    kind, notes = kind_of(verdict, basis), notes_of(trace.lines, verdict)
     page = filled(
-        resource("page.html"),
+        template("page.html"),
         POLICY=policy([loader, library, own], [style]),
         TITLE=html(wanted.name),
-        VERDICT_TEXT=html(title_of(verdict, basis)),
+        VERDICT_TEXT=html(told.title),
         STYLE=style,
-        KIND=kind,
-        MARK=MARKS[kind],
-        BANNER=banner(verdict, basis, silence, trace.unit),
-        FACTS=pairs(facts_of(verdict.said, trace.unit)),
-        CONVERTED="".join(f'<p class="note">{html(note)}</p>' for note in notes),
-        QUOTE=quote(trace, verdict),
-        DEPARTURES=section_of(verdict, basis, trace.unit),
-        SILENCES=silences_of(silences, trace, held),
-        OVERVIEW=pairs(overview(wanted, trace, verdict, part)),
-        OPTIONS=pairs(options(trace)),
         LICENCE=html_of_lines(licence()),
         DATA=data,
         LINES=text,
         LIBRARY=packed(library),
         SCRIPT=packed(own),
         LOADER=loader,
+        **told.texts(),
     )
-    return Made(page, verdict, basis, notes)
+    return Made(page, verdict, told.basis, told.notes)
 
 
 def opening_of(verdict: Verdict, basis: Basis, silence: Silence | None, trace: Trace) -> int:
@@ -165,29 +201,6 @@ def opening_of(verdict: Verdict, basis: Basis, silence: Silence | None, trace: T
     if silence and (silence.over * 2 > silence.long or not lines):
         return silence.line
     return lines[0] if lines else 0
-
-
-def filled(template: str, **parts: str) -> str:
-    """A template with each of its places filled; what is put in is not looked at again."""
-    pieces = template.split("@@")
-    for place in range(1, len(pieces), 2):
-        pieces[place] = parts[pieces[place]]
-    return "".join(pieces)
-
-
-def policy(scripts: list[str], styles: list[str]) -> str:
-    """A policy by which the page runs these texts and fetches nothing."""
-    return (
-        f"default-src 'none'; script-src {' '.join(map(hashed, scripts))};"
-        f" style-src {' '.join(map(hashed, styles))};"
-        " base-uri 'none'; form-action 'none'"
-    )
-
-
-def hashed(text: str) -> str:
-    """The name of a text in a policy."""
-    digest = hashlib.sha256(text.encode()).digest()
-    return f"'sha256-{base64.b64encode(digest).decode()}'"
 
 
 def html_of_lines(text: str) -> str:

@@ -64,11 +64,15 @@ class Browser:
             "Emulation.setEmulatedMedia", {"media": media, "features": [feature]}
         )
 
+    def get(self, address: str) -> None:
+        """Opens an address."""
+        self.driver.get(address)
+
     def open(self, page: Path, fragment: str = "") -> None:
         """Opens a page anew and waits until it is drawn."""
-        self.driver.get("about:blank")
+        self.get("about:blank")
         self.messages()
-        self.driver.get(page.resolve().as_uri() + fragment)
+        self.get(page.resolve().as_uri() + fragment)
         self.wait(READY)
 
     def wait(self, condition: str) -> None:
@@ -80,9 +84,13 @@ class Browser:
         """What a script returns."""
         return self.driver.execute_script(script, *arguments)
 
+    def run_async(self, script: str, *arguments: object) -> Any:
+        """What a script hands to the function that is its last argument."""
+        return self.driver.execute_async_script(script, *arguments)
+
     def settled(self) -> None:
         """Waits until all that was asked for is drawn."""
-        self.driver.execute_async_script(
+        self.run_async(
             "const done = arguments[0];"
             "requestAnimationFrame(() => requestAnimationFrame(() => done(1)))"
         )
@@ -100,6 +108,25 @@ class Browser:
                 found.append(message["params"]["request"]["url"])
         return found
 
+    def mouse(self, kind: str, x: float, y: float, **more: Any) -> None:
+        """An event of the mouse, as from the machine itself."""
+        event = {"type": kind, "x": x, "y": y, "button": "left", "clickCount": 1, **more}
+        self.driver.execute_cdp_cmd("Input.dispatchMouseEvent", event)
+
+    def touch(self, kind: str, *points: tuple[float, float]) -> None:
+        """Fingers are put down, moved or lifted."""
+        listed = [{"x": x, "y": y, "id": place} for place, (x, y) in enumerate(points)]
+        event = {"type": kind, "touchPoints": listed}
+        self.driver.execute_cdp_cmd("Input.dispatchTouchEvent", event)
+
+    def shot(self, clip: dict[str, float] | None = None) -> bytes:
+        """A picture of what is seen, or of a part of the page, in pixels from its top left."""
+        wanted: dict[str, Any] = {"format": "png"}
+        if clip:
+            wanted["clip"] = {**clip, "scale": 1}
+        shot = self.driver.execute_cdp_cmd("Page.captureScreenshot", wanted)
+        return base64.b64decode(shot["data"])
+
     def picture(self, file: Path, *, is_whole: bool = True, part: str = "") -> None:
         """Keeps a picture of the page, or of a part of it, by a selector."""
         height = self.run("return document.documentElement.scrollHeight")
@@ -107,11 +134,7 @@ class Browser:
         if is_whole or part:
             self.resize(width, height)
             self.settled()
-        wanted: dict[str, Any] = {"format": "png"}
-        if part:
-            wanted["clip"] = {**self.run(PLACE, part), "scale": 1}
-        shot = self.driver.execute_cdp_cmd("Page.captureScreenshot", wanted)
-        file.write_bytes(base64.b64decode(shot["data"]))
+        file.write_bytes(self.shot(self.run(PLACE, part) if part else None))
 
     def close(self) -> None:
         """Ends the browser."""

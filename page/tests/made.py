@@ -23,7 +23,8 @@ from objects import object_line  # noqa: E402
 from rows import first_not_followed, first_not_good, rows_of  # noqa: E402
 
 from qaudit_page.library import PLACE, dygraphs  # noqa: E402
-from qaudit_page.page import Wanted, written  # noqa: E402
+from qaudit_page.page import Told, Wanted, written  # noqa: E402
+from qaudit_page.pair import written as written_of_two  # noqa: E402
 from qaudit_page.payload import part_of  # noqa: E402
 from qaudit_page.program import Verdict  # noqa: E402
 from qaudit_page.rows import columns_of  # noqa: E402
@@ -90,6 +91,16 @@ def made(data: bytes, report: str | None = None, *, is_strict: bool = False, **w
     asked = Wanted(**fields)
     part = part_of(trace, verdict, asked.first, asked.last)
     return written(asked, LIBRARY, trace, verdict, part).text
+
+
+def made_of_two(first: bytes, second: bytes, *names: str) -> str:
+    """The page of two traces."""
+    runs = []
+    for data, name in zip((first, second), names or ("first.trace", "second.trace"), strict=True):
+        trace, verdict = seen(data)
+        part = part_of(trace, verdict, None, None)
+        runs.append(Told(Wanted(Path(name), title=name), trace, verdict, part))
+    return written_of_two("two traces", LIBRARY, (runs[0], runs[1]))
 
 
 class Page(HTMLParser):

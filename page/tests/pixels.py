@@ -1,11 +1,10 @@
 """The colours of a part of a picture, and where a diagram has a value by the labels of its axes."""
 
-import base64
 import re
 import zlib
 from collections.abc import Callable
 
-from tests.chromium import Browser
+from tests.browsers import Browser
 
 Color = tuple[int, int, int]
 # How far a channel of a colour may be off, for edges are smooth, and how far a mark from its place.
@@ -94,15 +93,8 @@ def color_of(text: str) -> Color:
 def colors(browser: Browser, left: float, top: float, width: int, height: int) -> list[Color]:
     """The colours of a part of what is seen."""
     scroll = browser.run("return [scrollX, scrollY]")
-    clip = {
-        "x": left + scroll[0],
-        "y": top + scroll[1],
-        "width": width,
-        "height": height,
-        "scale": 1,
-    }
-    shot = browser.driver.execute_cdp_cmd("Page.captureScreenshot", {"format": "png", "clip": clip})
-    return decoded(base64.b64decode(shot["data"]))
+    clip = {"x": left + scroll[0], "y": top + scroll[1], "width": width, "height": height}
+    return decoded(browser.shot(clip))
 
 
 def decoded(png: bytes) -> list[Color]:

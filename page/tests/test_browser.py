@@ -11,7 +11,8 @@ import zlib
 from pathlib import Path
 from typing import Any
 
-from tests.chromium import MISSING, Browser
+from tests.browsers import IS_FIREFOX, MISSING, Browser, begun
+from tests.firefox import Firefox
 from tests.made import HEADER, NO_LIBRARY, TRACES, acked, joined, made, report_of, sent
 from tests.pixels import Scale
 
@@ -46,7 +47,7 @@ class Browsing(unittest.TestCase):
 
     @classmethod
     def setUpClass(cls) -> None:
-        cls.browser = Browser()
+        cls.browser = begun()
         cls.folder = tempfile.TemporaryDirectory()
 
     @classmethod
@@ -79,8 +80,7 @@ class Browsing(unittest.TestCase):
 
     def mouse(self, kind: str, x: float, y: float, **more: Any) -> None:
         """An event of the mouse, as from the machine itself."""
-        event = {"type": kind, "x": x, "y": y, "button": "left", "clickCount": 1, **more}
-        self.browser.driver.execute_cdp_cmd("Input.dispatchMouseEvent", event)
+        self.browser.mouse(kind, x, y, **more)
 
     def drag(self, x: float, y: float, by: float, **more: Any) -> None:
         """The mouse is pressed, moved and let go."""
@@ -92,9 +92,13 @@ class Browsing(unittest.TestCase):
 
     def touch(self, kind: str, *points: tuple[float, float]) -> None:
         """Fingers are put down, moved or lifted."""
-        listed = [{"x": x, "y": y, "id": place} for place, (x, y) in enumerate(points)]
-        event = {"type": kind, "touchPoints": listed}
-        self.browser.driver.execute_cdp_cmd("Input.dispatchTouchEvent", event)
+        self.browser.touch(kind, *points)
+
+    def of_chromium(self) -> Any:
+        """The driver of Chromium, which can do more than that of Firefox."""
+        if isinstance(self.browser, Firefox):
+            self.skipTest("Firefox cannot be told to")
+        return self.browser.driver
 
     def box(self, selector: str) -> Any:
         """Where an element is: its left, top, width and height."""
@@ -610,8 +614,9 @@ class Harm(Browsing):
         self.assertIn("The diagrams could not be drawn", self.text("#trouble"))
         self.assertIn("Accepted.", self.text(".verdict"))
 
+    @unittest.skipIf(IS_FIREFOX, "only Chromium can be made one")
     def test_an_old_browser(self) -> None:
-        driver = self.browser.driver
+        driver = self.of_chromium()
         old = {"source": "delete window.DecompressionStream"}
         added = driver.execute_cdp_cmd("Page.addScriptToEvaluateOnNewDocument", old)
         try:

@@ -28,7 +28,7 @@ class Access(Browsing):
 
     def emulate(self, command: str, **wanted: object) -> None:
         """What a device has, or what a person prefers."""
-        self.browser.driver.execute_cdp_cmd(f"Emulation.{command}", wanted)
+        self.of_chromium().execute_cdp_cmd(f"Emulation.{command}", wanted)
 
     def test_a_question_mark_shows_the_keys(self) -> None:
         self.show(self.page)

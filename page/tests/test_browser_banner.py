@@ -120,7 +120,7 @@ class Tables(Browsing):
         try:
             for is_dark in (False, True):
                 self.browser.dress(is_dark=is_dark)
-                self.browser.driver.get(page.resolve().as_uri())
+                self.browser.get(page.resolve().as_uri())
                 colours = ("green", "amber", "red", "red")
                 for key, colour in zip("abcd", colours, strict=True):
                     found = self.browser.run(COLOUR, f"[title={key}]", "color")

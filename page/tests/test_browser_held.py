@@ -35,7 +35,7 @@ class HeldBack(Browsing):
         for name in ("ngtcp2-probe-count", "ngtcp2-stalled", "curl-8.14-openssl-stalled"):
             with self.subTest(name):
                 self.show(corpus(name, REAL))
-                told = self.browser.driver.execute_async_script(TOLD)
+                told = self.browser.run_async(TOLD)
                 self.assertEqual(len(told), 10)
                 for listed, panel in told:
                     self.assertEqual(listed, panel.split("; ")[0])

@@ -184,11 +184,12 @@ class Tables(unittest.TestCase):
         self.assertIn("V6 number-not-higher1", page.by_id["rules"])
         self.assertIn("quinn \u2192 quic-go", page.by_id["table"])
         links = [it["href"] for tag, it in page.tags if tag == "a"]
+        # The page of a refused trace opens at the refused line.
         self.assertEqual(
-            sorted(links), ["pages/quinn_ngtcp2_loss.html", "pages/quinn_quic-go_loss.html"]
+            sorted(links), ["pages/quinn_ngtcp2_loss.html", "pages/quinn_quic-go_loss.html#line=3"]
         )
         for link in links:
-            self.assertIn("</html>", (self.folder / str(link)).read_text())
+            self.assertIn("</html>", (self.folder / str(link).split("#")[0]).read_text())
         self.assertIn("default-src 'none'", page.policy())
         said = json.loads(self.json.read_text())
         self.assertEqual([it["case"] for it in said["traces"]], ["loss", "loss"])
@@ -392,8 +393,9 @@ class Tables(unittest.TestCase):
         self.assertIn('a<script>b"&\\u{202e}', page.by_id["table"])
         for tag, attributes in page.tags:
             if tag == "a":
-                self.assertRegex(str(attributes["href"]), r"^pages/[A-Za-z0-9._-]+\.html$")
-                self.assertTrue((self.folder / str(attributes["href"])).exists())
+                href = str(attributes["href"])
+                self.assertRegex(href, r"^pages/[A-Za-z0-9._-]+\.html(#line=\d+)?$")
+                self.assertTrue((self.folder / href.split("#")[0]).exists())
 
     def test_below_directories_and_one_name_twice(self) -> None:
         for name in ("a", "b"):

@@ -5,6 +5,7 @@ complete -c qaudit-matrix -l pattern -x -d 'How traces are named, as CLIENT_SERV
 complete -c qaudit-matrix -l pages -r -d 'A directory for a page of each trace'
 complete -c qaudit-matrix -l json -r -d 'Where the verdicts are written as JSON'
 complete -c qaudit-matrix -l against -r -d 'What --json wrote at a run before'
+complete -c qaudit-matrix -l history -r -d 'A directory of what --json wrote in earlier runs'
 complete -c qaudit-matrix -l known -r -d 'Violations that are known'
 complete -c qaudit-matrix -l write-known -d 'Writes all violations into the file of --known'
 complete -c qaudit-matrix -l junit -r -d 'Where JUnit XML is written'

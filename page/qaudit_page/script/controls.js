@@ -3,9 +3,12 @@
 const CLICK = 5;
 const STEP = 1.3;
 
+// How addresses name the lines of this run.
+const LINKS = RUN.slice(0, -1) || 'line';
+
 // Goes to the line that the address names.
 function followAddress() {
-  const found = /^#line=(\d{1,10})$/.exec(location.hash);
+  const found = new RegExp(`^#${LINKS}=(\\d{1,10})$`).exec(location.hash);
   if (!found) return false;
   const place = placeShown(+found[1]);
   if (place >= 0) select(place, {zooms: true, isNamed: false});
@@ -17,7 +20,7 @@ function followAddress() {
 // The same for a link of the page; the diagrams come into sight if they are below.
 function followLink() {
   const isBelow = byId('chart-packets').getBoundingClientRect().top > innerHeight - 100;
-  if (followAddress() && isBelow) byId('main').scrollIntoView();
+  if (followAddress() && isBelow) (pair ? byId('run') : byId('main')).scrollIntoView();
 }
 
 function changeAxis(event) {
@@ -51,12 +54,12 @@ const KEYS = {
 
 // Shows all keys, or closes them again. The browser gives the focus back.
 function toggleHelp() {
-  if (byId('help').open) byId('help').close();
-  else byId('help').showModal();
+  if (shared('help').open) shared('help').close();
+  else shared('help').showModal();
 }
 
 function onKey(event) {
-  if (byId('help').open && event.key !== '?') return;
+  if (!isActive() || (shared('help').open && event.key !== '?')) return;
   if (event.ctrlKey || event.metaKey || event.altKey) return;
   if (/^(INPUT|SELECT|TEXTAREA)$/.test(event.target.tagName)) return;
   const does = KEYS[event.key];
@@ -65,33 +68,49 @@ function onKey(event) {
   does(event);
 }
 
-function addControls() {
-  const click = (id, does) => byId(id).addEventListener('click', does);
+// Whether the keys and the buttons of the page are for this run.
+const isActive = () => !pair || pair.active === RUN;
+
+const onClick = (element, does) => element.addEventListener('click', does);
+
+// Of two runs, the diagrams of this one and its table.
+const partsOfRun = () => [byId('run'), byId('below')];
+
+// The buttons that two runs share.
+function addShared() {
+  const click = (id, does) => onClick(shared(id), () => isActive() && does());
   click('zoom-in', () => zoom(0.5));
   click('zoom-out', () => zoom(2));
   click('zoom-all', showAll);
   click('pan-left', () => pan(-0.25));
   click('pan-right', () => pan(0.25));
+  click('to-help', toggleHelp);
+  click('help-close', toggleHelp);
+  addEventListener('keydown', onKey);
+  if (!pair) byId('axis').addEventListener('change', changeAxis);
+  else for (const name of ['pointerdown', 'focusin']) for (const part of partsOfRun())
+    part.addEventListener(name, () => pair.activate(RUN), true);
+}
+
+function addControls() {
+  const click = (id, does) => onClick(byId(id), does);
+  addShared();
   click('earlier', () => turnTable(-ROWS));
   click('later', () => turnTable(ROWS));
   click('to-verdict', toVerdict);
-  click('to-help', toggleHelp);
-  click('help-close', toggleHelp);
   click('departure-before', () => toDeparture(-1));
   click('departure-next', () => toDeparture(1));
   click('rows', event => {
     const row = event.target.closest('tr');
     if (row && !getSelection().toString()) select(placeShown(+row.dataset.line), {stays: true});
   });
-  byId('axis').addEventListener('change', changeAxis);
   byId('find').addEventListener('keydown', event =>
     event.key === 'Enter' && find(event.target.value, event.shiftKey));
-  addEventListener('keydown', onKey);
   addEventListener('hashchange', followLink);
   // A link to the line that is in the address leads there again.
   addEventListener('click', event => {
-    const link = event.target.closest('a[href^="#line="]');
-    if (link && link.hash === location.hash) followLink();
+    const link = event.target.closest(`a[href^="#${LINKS}="]`);
+    if (link && link.hash === location.hash && !event.defaultPrevented) followLink();
   });
   addEventListener('resize', redraw);
   byId('departures-bar').hidden = !trace.departed.size;

@@ -16,7 +16,9 @@ const AMOUNTS = [
 const METRICS = [
   'window', 'ssthresh', 'bytes_in_flight', 'latest_rtt', 'min_rtt', 'smoothed_rtt', 'rttvar',
 ];
-const byId = id => document.getElementById(id);
+// What a run has of the page, and what two runs share.
+const byId = id => document.getElementById(RUN + id);
+const shared = id => document.getElementById(id);
 
 // The values whose differences these are.
 function summed(differences) {
@@ -36,6 +38,16 @@ function amounts(column) {
   return values;
 }
 
+// Codes that are written as a digit in base 16 each.
+function codesOf(digits) {
+  const codes = new Uint8Array(digits.length);
+  for (let i = 0; i < digits.length; i++) {
+    const char = digits.charCodeAt(i);
+    codes[i] = char < 58 ? char - 48 : char - 87;
+  }
+  return codes;
+}
+
 const trace = {};
 
 function unpack(said, text) {
@@ -44,7 +56,10 @@ function unpack(said, text) {
   trace.time = summed(said.time);
   // How many of the trace's units of time are a millisecond.
   trace.scale = said.unit === 'ns' ? 1e6 : 1e3;
-  trace.space = Uint8Array.from(said.space, Number);
+  // How much later than its clock says it is drawn, in milliseconds, beside another run.
+  trace.shift = said.shift || 0;
+  trace.space = codesOf(said.space);
+  trace.timed = Uint8Array.from({length: said.count}, (_, i) => 'hbu'.includes(said.kind[i]) ? 0 : 1);
   // The place of the first line that was not judged.
   trace.limit = said.unjudged === null ? said.count : Math.max(0, said.unjudged - said.first);
   trace.stopAt = said.unjudged === null ? -1 : placeShown(said.unjudged);
@@ -109,8 +124,9 @@ function unpackState(said) {
   state.owed = spread(summed(said.owed), rowOf);
   const after = summed(said.deadline.by);
   for (let i = 0; i < rows.length; i++) after[i] += trace.time[rows[i]];
-  const timer = spread(Float64Array.from(said.timer, Number), rowOf);
-  state.timer = Uint8Array.from(timer, code => code === code ? code : NO_SPACE);
+  const timer = codesOf(said.timer);
+  state.timer = new Uint8Array(trace.count).fill(NO_SPACE);
+  for (let i = 0; i < trace.count; i++) if (rowOf[i] >= 0) state.timer[i] = timer[rowOf[i]];
   state.deadline = spread(after, rowOf);
   for (let i = 0; i < trace.count; i++) if (state.timer[i] === NO_SPACE) state.deadline[i] = NaN;
   trace.state = state;
@@ -119,8 +135,11 @@ function unpackState(said) {
   if (trace.firstSample < 0) trace.firstSample = trace.count;
 }
 
+// The values of rows for each line, by loops: a function for each value takes several times as long.
 function spread(values, rowOf) {
-  return Float64Array.from(rowOf, row => row < 0 ? NaN : values[row]);
+  const found = new Float64Array(rowOf.length);
+  for (let i = 0; i < rowOf.length; i++) found[i] = rowOf[i] < 0 ? NaN : values[rowOf[i]];
+  return found;
 }
 
 // The digits of an amount of a state, all of them.
@@ -133,19 +152,26 @@ function digitsOf(name, place) {
 
 function unpackPackets(said) {
   const packets = {
-    line: summed(said.line), space: Uint8Array.from(said.space, Number),
+    line: summed(said.line), space: codesOf(said.space),
     number: summed(said.number.by), exact: said.number.exact, size: summed(said.size),
-    flags: Uint8Array.from(said.flags, digit => parseInt(digit, 16)),
+    flags: codesOf(said.flags),
     least: said.least.map(BigInt), before: said.before,
   };
   packets.count = packets.line.length;
   packets.at = packets.line.map(line => line - trace.first);
-  for (const end of ['acked', 'lost', 'gone'])
-    packets[end] = Float64Array.from(said[end], (by, p) => by ? packets.at[p] + by : NaN);
+  for (const end of ['acked', 'lost', 'gone']) packets[end] = endsOf(said[end], packets.at);
   unpackEnds(packets);
   packets.of = new Int32Array(trace.count).fill(-1);
   for (let p = 0; p < packets.count; p++) if (packets.at[p] >= 0) packets.of[packets.at[p]] = p;
   trace.packets = packets;
+}
+
+// The places at which packets ended, by how many lines that was after each; NaN for those that did
+// not.
+function endsOf(after, at) {
+  const ends = new Float64Array(at.length);
+  for (let p = 0; p < at.length; p++) ends[p] = after[p] ? at[p] + after[p] : NaN;
+  return ends;
 }
 
 // The number of a packet, exactly.
@@ -156,11 +182,12 @@ function numberOf(packet) {
 
 // What became of each packet, and where.
 function unpackEnds(packets) {
+  const {lost, acked, gone} = packets;
   packets.how = new Array(packets.count);
   packets.end = new Float64Array(packets.count).fill(NaN);
   for (let p = 0; p < packets.count; p++) {
-    packets.how[p] = ['lost', 'acked', 'gone'].find(end => packets[end][p] === packets[end][p]) ||
-      (packets.flags[p] & ELICITING ? 'open' : 'bare');
+    packets.how[p] = lost[p] === lost[p] ? 'lost' : acked[p] === acked[p] ? 'acked' :
+      gone[p] === gone[p] ? 'gone' : packets.flags[p] & ELICITING ? 'open' : 'bare';
     const ended = packets[packets.how[p]];
     if (ended) packets.end[p] = ended[p];
   }
@@ -279,6 +306,6 @@ function element(name, text, className) {
 }
 
 function tell(text) {
-  byId('trouble').textContent = text;
-  byId('trouble').hidden = false;
+  shared('trouble').textContent = pair ? `${trace.title}: ${text}` : text;
+  shared('trouble').hidden = false;
 }

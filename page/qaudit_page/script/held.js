@@ -17,8 +17,7 @@ const HELD = [
 function unpackHeld(said) {
   const late = new Map(), lines = placesOf(said.line);
   said.late.forEach((amount, k) => late.set(lines[k], amount));
-  trace.held = {after: spread(Float64Array.from(said.after, Number), trace.state.rowOf), late,
-    needed: said.needed};
+  trace.held = {after: spread(codesOf(said.after), trace.state.rowOf), late, needed: said.needed};
   trace.next = nextTimes();
 }
 
@@ -31,6 +30,7 @@ function nextTimes() {
 
 // How much of the time after a line a timer was late, as a share of it.
 function lateShare(place) {
+  if (!trace.held.late.size) return 0;
   const next = trace.next[place], late = trace.held.late.get(next);
   const long = trace.time[next] - trace.time[place];
   return late && long > 0 ? Math.min(1, late / long) : 0;

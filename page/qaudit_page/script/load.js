@@ -4,7 +4,8 @@
 async function inflated(id) {
   const block = document.getElementById(id), raw = atob(block.textContent);
   block.textContent = '';
-  const bytes = Uint8Array.from(raw, char => char.charCodeAt(0));
+  const bytes = new Uint8Array(raw.length);
+  for (let i = 0; i < raw.length; i++) bytes[i] = raw.charCodeAt(i);
   const stream = new Blob([bytes]).stream().pipeThrough(new DecompressionStream('deflate'));
   return new Response(stream).text();
 }

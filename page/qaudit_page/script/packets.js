@@ -4,7 +4,7 @@
 const TIMER_LANE = 56;
 const LEAST_LANE = 26;
 const LANE_GAP = 8;
-const lanes = [];
+const lanes = [], laneBySpace = [];
 const FATES = {
   acked: 'acknowledged', lost: 'declared lost', open: 'no ack', gone: 'gone with its keys',
 };
@@ -23,12 +23,9 @@ function isPacketSeen(packet) {
 }
 
 function lookForPackets() {
-  const {count, space} = trace.packets;
+  const {at, space} = trace.packets, end = firstNotBelow(at, lastPlaceAt(view.to) + 1);
   shownPackets = [];
-  for (let p = 0; p < count; p++) {
-    if (xOfPacket(p) > view.to) break;
-    if (shownSpaces[space[p]] && isPacketSeen(p)) shownPackets.push(p);
-  }
+  for (let p = 0; p < end; p++) if (shownSpaces[space[p]] && isPacketSeen(p)) shownPackets.push(p);
   isDense = shownPackets.length > 1500;
   packetRadius = shownPackets.length > 4000 ? 1.2 : shownPackets.length > 500 ? 2.3 : 3.6;
 }
@@ -48,13 +45,14 @@ function layLanes(height) {
   const below = (hasTimer ? TIMER_LANE + LANE_GAP : 0) + HELD_LANE + LANE_GAP;
   const room = height - below - LANE_GAP * (seen.length - 1) - 22;
   const wanted = counts.map(n => n && Math.sqrt(n) + 1), sum = wanted[0] + wanted[1] + wanted[2];
-  lanes.length = 0;
+  lanes.length = laneBySpace.length = 0;
   let top = 22;
   for (const s of seen) {
     const small = seen.length > 1 ? Math.min(LEAST_LANE, room / seen.length) : 0;
     const tall = small + (room - small * seen.length) * wanted[s] / sum;
     const pad = Math.max(0.7, (most[s] - least[s]) * 0.05);
-    lanes.push({space: s, top, tall, low: least[s] - pad, high: most[s] + pad});
+    laneBySpace[s] = {space: s, top, tall, low: least[s] - pad, high: most[s] + pad};
+    lanes.push(laneBySpace[s]);
     top += tall + LANE_GAP;
   }
   heldLane = {top: height - below + LANE_GAP, tall: HELD_LANE};
@@ -64,7 +62,7 @@ function layLanes(height) {
 // How long the timer has to run in the view, in milliseconds, but for the few longest; below 0
 // where it is late.
 function timerRange() {
-  const {deadline} = trace.state, {time, scale, kind, limit, count} = trace, longs = [];
+  const {deadline} = trace.state, {time, scale, limit, count} = trace, longs = [];
   const first = Math.max(0, placeAt(view.from) - 1);
   const last = Math.min(limit, count - 1, placeAt(view.to) + 1);
   const step = Math.ceil((last - first + 1) / 5000);
@@ -72,8 +70,7 @@ function timerRange() {
   for (let i = first; i <= last; i++) {
     const long = (deadline[i] - time[i]) / scale;
     if (i % step === 0 && i < limit && long > 0) longs.push(long);
-    const isEvent = i && !'hbu'.includes(kind[i]);
-    if (isEvent) low = Math.min(low, (deadline[i - 1] - time[i]) / scale || 0);
+    if (i && hasTime(i)) low = Math.min(low, (deadline[i - 1] - time[i]) / scale || 0);
   }
   longs.sort((a, b) => a - b);
   const usual = longs[Math.floor(longs.length * 0.9)] || 1;
@@ -84,7 +81,7 @@ function timerRange() {
 
 const inLane = (area, lane, value) =>
   area.y + lane.top + lane.tall * (1 - (value - lane.low) / (lane.high - lane.low));
-const laneOf = space => lanes.find(lane => lane.space === space);
+const laneOf = space => laneBySpace[space];
 function yOfPacket(area, packet) {
   return inLane(area, laneOf(trace.packets.space[packet]), trace.packets.number[packet]);
 }
@@ -161,26 +158,37 @@ function drawLane(context, area, lane) {
 
 // The greatest number that was acknowledged so far, as a step, from one lane's bottom to its top.
 function drawGreatest(context, area, to, space) {
-  const {at, number: numbers} = trace.acks, lane = laneOf(space);
   const gone = trace.marks.find(mark => mark.of === 'discard' && mark.space === space);
-  let most = -1, y = 0, x = 0;
+  const until = to.x(xOf(Math.min(gone ? gone.at : trace.limit, trace.count - 1)));
+  const steps = stepsOf(space, to, laneOf(space)), last = steps[steps.length - 1];
+  if (!last) return;
+  const end = Math.max(last.x, Math.min(area.x + area.w, until));
   stroked(context, colors[SPACES[space]], 1.4, [], () => {
-    for (let k = 0; k < at.length; k++) {
-      if (at[k] >= trace.limit || trace.space[at[k]] !== space) continue;
-      const number = Math.min(numbers[k], lane.high);
-      if (number <= most) continue;
-      x = to.x(view.x[at[k]]);
-      if (x > area.x + area.w + 5) break;
-      if (most >= 0) context.lineTo(x, y);
-      const begins = most < 0;
-      most = number;
-      y = inLane(area, lane, Math.max(number, lane.low));
-      if (begins) context.moveTo(x, y);
-      else context.lineTo(x, y);
+    let y = inLane(area, laneOf(space), Math.max(steps[0].number, laneOf(space).low));
+    context.moveTo(steps[0].x, y);
+    for (const {x, number} of steps) {
+      context.lineTo(x, y);
+      y = inLane(area, laneOf(space), Math.max(number, laneOf(space).low));
+      context.lineTo(x, y);
     }
-    const end = to.x(xOf(Math.min(gone ? gone.at : trace.limit, trace.count - 1)));
-    if (most >= 0) context.lineTo(Math.max(x, Math.min(area.x + area.w, end)), y);
+    context.lineTo(end, y);
   }, 0.55);
+}
+
+// Where the greatest acknowledged number rises, and to what; of the rises in half a pixel the last.
+function stepsOf(space, to, lane) {
+  const {at, number: numbers} = trace.acks, steps = [];
+  const limit = Math.min(trace.limit, lastPlaceAt(view.to) + 2);
+  let most = -1;
+  for (let k = 0; k < at.length && at[k] < limit; k++) {
+    const number = Math.min(numbers[k], lane.high);
+    if (trace.space[at[k]] !== space || number <= most) continue;
+    most = number;
+    const x = to.x(view.x[at[k]]), before = steps[steps.length - 1];
+    if (steps.length > 1 && x - before.x < 0.5) before.number = number;
+    else steps.push({x, number});
+  }
+  return steps;
 }
 
 // Of packets at one point one is drawn, but each that was lost.
@@ -338,7 +346,7 @@ function drawDeadlines(context, area, to, y, isLoss) {
   stroked(context, colors.timer, 1.3, isLoss ? [2, 2] : [], () => {
     for (let i = Math.max(0, placeAt(view.from) - 1); i < last; i++) {
       if (timer[i] === NO_SPACE || timer[i] >= OF_LOSS !== isLoss) continue;
-      const isFollowed = i + 1 < trace.count && !'hbu'.includes(trace.kind[i + 1]);
+      const isFollowed = i + 1 < trace.count && hasTime(i + 1);
       const next = isFollowed ? i + 1 : i, x = to.x(view.x[i]), top = y(i, i);
       if (to.x(view.x[next]) - x < 1) {
         if (!free(x, top)) continue;

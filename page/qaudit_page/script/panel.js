@@ -1,7 +1,8 @@
 // The panel beside the diagrams: what is known of the line under the cursor, and else of the one
 // that is selected. The cursor is an upright in all diagrams.
 
-let cursorAt = -1, isJsonOpen = false;
+// The line under the cursor, and the x of the cursor, which may be over the other run.
+let cursorAt = -1, cursorX = NaN, isCursorHere = true, isJsonOpen = false;
 // The values of a state: their names, their columns, and those of reports.
 const VALUES = [
   ['window', 'window', 'window', 'B'], ['in flight', 'in_flight', 'bytes_in_flight', 'B'],
@@ -13,8 +14,16 @@ const VALUES = [
 
 // Shows a line under the cursor, in all diagrams; -1 for none.
 function showCursor(place) {
-  if (place === cursorAt) return;
-  cursorAt = place;
+  if (place === cursorAt && isCursorHere) return;
+  [cursorAt, cursorX, isCursorHere] = [place, place < 0 ? NaN : view.x[place], true];
+  moveCursors();
+  fillPanel();
+  pair?.otherOf(RUN)?.follow(cursorX);
+}
+
+// Shows the cursor of the other run: what this one had come to then.
+function followCursor(x) {
+  [cursorAt, cursorX, isCursorHere] = [x === x ? lastPlaceAt(x) : -1, x, false];
   moveCursors();
   fillPanel();
 }
@@ -25,7 +34,7 @@ function moveCursors() {
 
 function moveCursor(box, area) {
   const it = box.querySelector('.cursor') || box.appendChild(element('div', '', 'cursor'));
-  const x = cursorAt < 0 ? NaN : scaleOf(area, [0, 1]).x(view.x[cursorAt]);
+  const x = scaleOf(area, [0, 1]).x(cursorX);
   it.hidden = !(x >= area.x && x <= area.x + area.w);
   Object.assign(it.style, {left: `${x}px`, top: `${area.y}px`, height: `${area.h}px`});
 }
@@ -40,10 +49,34 @@ function fillPanel() {
   }
   const time = hasTime(place) ? ` at ${milliseconds(trace.time[place])}` : '';
   const head = element('h2', `Line ${grouped(trace.first + place)}${time}`);
-  head.append(' ', element('small', place === view.selected ? 'selected' : 'under the cursor'));
+  head.append(' ', element('small', whereOf(place)));
   const said = [head, element('p', whatOf(place), 'what')], stand = standingOf(place);
   if (stand) said.push(element('p', stand, 'stand'));
-  box.replaceChildren(...said, ...heldParts(place), valuesOf(place), jsonOf(place));
+  box.replaceChildren(...said, ...otherPart(place), ...heldParts(place), valuesOf(place), jsonOf(place));
+}
+
+// Why the panel has a line; beside another run, and if clocks differ, where it is on the axis.
+function whereOf(place) {
+  const drawn = trace.shift && hasTime(place) ? `, at ${tickOf(view.x[place])} ms on the axis` : '';
+  if (place === view.selected) return `selected${drawn}`;
+  return (isCursorHere ? 'under the cursor' : 'at the same time') + drawn;
+}
+
+// A link to the last line of the other run that was not later.
+function otherPart(place) {
+  const other = pair?.otherOf(RUN);
+  if (!other) return [];
+  const at = other.lastPlaceAt(view.x[place]);
+  if (at < 0) return [element('p', `${other.title} begins later.`, 'hint')];
+  const link = element('a', `${other.title} at the same time: line ${grouped(other.lineOf(at))}`);
+  link.href = other.hashOf(at);
+  link.addEventListener('click', event => {
+    event.preventDefault();
+    other.visit(at);
+  });
+  const part = element('p', undefined, 'other');
+  part.append(link);
+  return [part];
 }
 
 // What a line says, in words.

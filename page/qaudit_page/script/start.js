@@ -1,6 +1,8 @@
 // Makes the diagrams and their keys, and begins.
 
-const nameOfAxis = () => view.byLine ? 'line of the trace' : 'time (ms)';
+// dygraphs takes this for markup, so no name of a file may be in it.
+const nameOfAxis = () => view.byLine ? 'line of the trace' :
+  pair ? 'time (ms) by the clock of the first trace' : 'time (ms)';
 const tickOf = value => grouped(+value.toPrecision(12));
 const tickOfX = value => view.byLine ? tickOf(value) : `${tickOf(value)} ms`;
 
@@ -16,6 +18,9 @@ function widthOfLabels() {
 
 // The packets are drawn from the columns; dygraphs has the ends of the axis only.
 const ends = () => [[view.low, 0], [view.high, 0]];
+
+// What a diagram has until it is drawn for the first time.
+const noRows = series => ends().map(([x]) => [x, ...new Array(series).fill(null)]);
 
 function options(more) {
   return {
@@ -44,7 +49,8 @@ const seriesOfRtt = () => ({
 function makeCharts() {
   const pixelsPerLabel = innerWidth < 600 ? 70 : 100;
   const x = {axisLabelFormatter: tickOfX, axisLabelWidth: 92, pixelsPerLabel};
-  const y = {axisLabelWidth: widthOfLabels(), valueRange: [0, 1], pixelsPerLabel: 34};
+  const axisLabelWidth = pair ? pair.widthOfLabels() : widthOfLabels();
+  const y = {axisLabelWidth, valueRange: [0, 1], pixelsPerLabel: 34};
   const ticker = () => charts.packets ? laneTicks(charts.packets.getArea().h) : [];
   // The legend of dygraphs sets attributes for style, which the policy of the page forbids.
   Dygraph.PLUGINS = Dygraph.PLUGINS.filter(plugin => plugin !== Dygraph.Plugins.Legend);
@@ -53,15 +59,15 @@ function makeCharts() {
     axes: {x, y: {...y, ticker}},
   }));
   const tickerOf = (range, unit) => (a, b, pixels) => axisTicks(range(), pixels, unit);
-  charts.window = new Dygraph(byId('chart-window'), rowsOf(lines.window, 200), options({
+  charts.window = new Dygraph(byId('chart-window'), noRows(4), options({
     labels: ['x', 'window', 'ssthresh', 'flight', 'marks'], ...toneOfAxes(),
     series: seriesOfWindow(), axes: {x: {...x, drawAxis: false}, y: {...y, ticker: tickerOf(() => windowRange, 'B')}},
   }));
-  charts.headroom = new Dygraph(byId('chart-headroom'), rowsOf(lines.headroom, 200), options({
+  charts.headroom = new Dygraph(byId('chart-headroom'), noRows(2), options({
     labels: ['x', 'headroom', 'marks'], ...toneOfAxes(), series: seriesOfHeadroom(),
     axes: {x: {...x, drawAxis: false}, y: {...y, ticker: () => roomTicks}},
   }));
-  charts.rtt = new Dygraph(byId('chart-rtt'), rowsOf(lines.rtt, 200), options({
+  charts.rtt = new Dygraph(byId('chart-rtt'), noRows(4), options({
     labels: ['x', 'smoothed', 'latest', 'least', 'marks'],
     ...toneOfAxes(), series: seriesOfRtt(), axes: {x, y: {...y, ticker: tickerOf(() => rttRange, 'ms')}},
     xlabel: nameOfAxis(),
@@ -106,7 +112,7 @@ function keyEntry([, text, draw, isFixed]) {
 // Hides what an entry of a key is of, or shows it again, and says so. Two keys may have one entry.
 function toggle(text) {
   if (!hidden.delete(text)) hidden.add(text);
-  for (const item of document.querySelectorAll('.key button'))
+  for (const item of byId('chart-packets').closest('.beside').querySelectorAll('.key button'))
     if (item.textContent === text) item.setAttribute('aria-pressed', String(isShown(text)));
   byId('said').textContent = `${text}: ${isShown(text) ? 'shown' : 'hidden'}`;
   redraw();
@@ -237,21 +243,19 @@ function noteScheme() {
 // What is folded is printed too, where it is said against the sender.
 function fitToPaper() {
   if (byId('departures')) byId('departures').open = true;
-  const share = Math.min(1, 690 / byId('main').clientWidth);
+  const share = Math.min(1, 690 / byId('chart-packets').closest('.beside').clientWidth);
   document.documentElement.style.setProperty('--fit', String(share));
 }
 
 function begin(started) {
   readColors();
   noteScheme();
-  setAxis();
   setLines();
-  Object.assign(view, {from: view.low, to: view.high});
   makeCharts();
   addControls();
   fillKeys();
   if (!followAddress()) {
-    if (trace.opensAt >= 0) select(trace.opensAt, {zooms: true, isNamed: false});
+    if (trace.opensAt >= 0) select(trace.opensAt, {...howToOpen(), isNamed: false});
     else {
       fillTable();
       fillPanel();
@@ -267,7 +271,7 @@ function begin(started) {
     recolor();
   });
   addEventListener('beforeprint', fitToPaper);
-  window.qauditPage = {
+  const seen = {
     ready: performance.now(), took: performance.now() - started,
     frames: () => frames, lastFrame: () => lastFrame, trace, view, lines,
     ranges: () => ({rtt: rttRange, window: windowRange}), heldLane: () => heldLane, cursor: () => cursorAt, heldColumns: () => {
@@ -276,17 +280,43 @@ function begin(started) {
     },
     selected: () => view.selected < 0 ? null : trace.first + view.selected,
   };
+  if (pair) pair.drawn(RUN, seen);
+  else window.qauditPage = seen;
 }
+
+// One of two runs says which span is shown first, unless the address names a line.
+const howToOpen = () => pair && (pair.isNamed || !trace.zooms) ? {rests: true} : {zooms: true};
+
+// What the other run of a page can ask of this one.
+const asked = () => ({
+  title: trace.title, widthOfLabels, showSpan, lastPlaceAt, follow: followCursor,
+  ends: () => [view.low, view.high],
+  widen: (low, high) => Object.assign(view, {low, high, from: low, to: high}),
+  mark: isOn => partsOfRun().forEach(it => it.classList.toggle('active', isOn)),
+  lineOf: place => trace.first + place,
+  hashOf: place => `#${LINKS}=${trace.first + place}`,
+  visit: place => {
+    select(place);
+    byId('run').scrollIntoView();
+  },
+});
 
 async function start() {
   const started = performance.now();
-  const [data, text] = await Promise.all([inflated('data'), inflated('text')]);
+  const [data, text] = await Promise.all([inflated(`${RUN}data`), inflated(`${RUN}text`)]);
   unpack(JSON.parse(data), text);
   if (!trace.count) {
     tell('The trace has no line.');
+    pair?.join(RUN, null);
     return;
   }
-  byId('controls').hidden = byId('main').hidden = false;
+  shared('controls').hidden = shared('main').hidden = false;
+  setAxis();
+  Object.assign(view, {from: view.low, to: view.high});
+  if (pair) {
+    for (const part of partsOfRun()) part.hidden = false;
+    await pair.join(RUN, asked());
+  }
   begin(started);
 }
 

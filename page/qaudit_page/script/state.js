@@ -19,31 +19,33 @@ const REPORTED = {
 // The series of both diagrams, in bytes and in milliseconds.
 function setLines() {
   const {state, scale, firstSample} = trace;
-  const inTime = column => column.map((value, i) => i >= firstSample ? value / scale : NaN);
+  const inTime = column => sampled(firstSample, i => column[i] / scale);
   lines.window = {window: state.window, ssthresh: state.ssthresh, flight: state.in_flight};
   lines.headroom = {headroom: state.window.map((bytes, i) => bytes - state.in_flight[i])};
   lines.rtt = {
     smoothed: inTime(state.smoothed_rtt), latest: inTime(state.latest_rtt),
     least: inTime(state.min_rtt),
   };
-  lines.timer = {
-    lossDelay: lossDelay().map((v, i) => i >= firstSample ? v : NaN),
-    timeout: timeout().map((v, i) => i >= firstSample ? v : NaN),
-  };
+  lines.timer = {lossDelay: sampled(firstSample, lossDelay), timeout: sampled(firstSample, timeout)};
 }
 
-// The loss delay (RFC 9002, 6.1.2) by the state of each line, in milliseconds.
-function lossDelay() {
+// A value of each line from the first sample of the round-trip time on.
+function sampled(firstSample, value) {
+  const column = new Float64Array(trace.count).fill(NaN);
+  for (let i = firstSample; i < trace.count; i++) column[i] = value(i);
+  return column;
+}
+
+// The loss delay (RFC 9002, 6.1.2) by the state of a line, in milliseconds.
+function lossDelay(i) {
   const {latest_rtt: latest, smoothed_rtt: smoothed} = trace.state;
-  return smoothed.map((value, i) =>
-    Math.max(1, Math.ceil(9 / 8 * Math.max(latest[i], value)) / trace.scale));
+  return Math.max(1, Math.ceil(9 / 8 * Math.max(latest[i], smoothed[i])) / trace.scale);
 }
 
 // The probe timeout (6.2.1), for application data and before it is doubled, in milliseconds.
-function timeout() {
-  const {smoothed_rtt: smoothed, rttvar} = trace.state;
-  return smoothed.map((value, i) =>
-    (value + Math.max(4 * rttvar[i], trace.scale) + trace.max_ack_delay) / trace.scale);
+function timeout(i) {
+  const {smoothed_rtt: smoothed, rttvar} = trace.state, {scale, max_ack_delay: delay} = trace;
+  return (smoothed[i] + Math.max(4 * rttvar[i], scale) + delay) / scale;
 }
 
 // The places of the view, a few for each pixel: ends and extremes of each column of pixels.
@@ -65,18 +67,23 @@ function picked(columns, pixels) {
 }
 
 function pickColumn(columns, begin, high, end, places) {
-  const least = columns.map(() => begin), most = columns.map(() => begin);
-  let i = begin;
-  do {
-    for (let k = 0; k < columns.length; k++) {
-      const value = columns[k][i];
-      if (value < columns[k][least[k]]) least[k] = i;
-      if (value > columns[k][most[k]]) most[k] = i;
-    }
-    i++;
-  } while (i <= high && view.x[i] < end);
-  places.push(...[...new Set([begin, i - 1, ...least, ...most])].sort((a, b) => a - b));
-  return i;
+  let next = begin + 1;
+  while (next <= high && view.x[next] < end) next++;
+  const found = [begin, next - 1];
+  for (const column of columns) pickExtremes(column, begin, next, found);
+  places.push(...[...new Set(found)].sort((a, b) => a - b));
+  return next;
+}
+
+// Adds the places of the least and of the greatest value before an end.
+function pickExtremes(column, begin, end, found) {
+  let least = begin, most = begin, low = column[begin], high = low;
+  for (let i = begin + 1; i < end; i++) {
+    const value = column[i];
+    if (value < low) [least, low] = [i, value];
+    if (value > high) [most, high] = [i, value];
+  }
+  found.push(least, most);
 }
 
 const orNull = value => value === value ? value : null;
@@ -119,12 +126,18 @@ function extremesOf(rows) {
   return [low, high];
 }
 
+// The first report in the view, and the first after it.
+function reportsSeen() {
+  const {at} = trace.reports;
+  return [firstNotBelow(at, placeAt(view.from)), firstNotBelow(at, lastPlaceAt(view.to) + 1)];
+}
+
 // The same, with what is reported and what is refused.
 function extremes(rows, reported, chart) {
   let [low, high] = extremesOf(rows);
   if (high < 0) [low, high] = [0, 0];
-  const {at} = trace.reports, limit = high ? high * 4 : Infinity;
-  for (let k = 0; k < at.length; k++) if (isSeen(view.x[at[k]])) for (const column of reported) {
+  const limit = high ? high * 4 : Infinity, [first, end] = reportsSeen();
+  for (let k = first; k < end; k++) for (const column of reported) {
     const value = column[k];
     if (value <= limit) high = Math.max(high, value);
     if (value <= limit) low = Math.min(low, value);
@@ -234,12 +247,13 @@ function drawReported(context, area, range, name, color, shape) {
   if (!isShown(REPORTED[name])) return;
   const column = chartOfReport(name);
   const to = scaleOf(area, range), {at} = trace.reports;
-  const free = cells(area, at.length < 300 ? 4 : 12);
+  const free = cells(area, at.length < 300 ? 4 : 12), [first, end] = reportsSeen();
+  const unjudged = Math.max(first, Math.min(end, firstNotBelow(at, trace.limit)));
   for (const isJudged of [true, false])
     stroked(context, isJudged ? color : colors.soft, 1.3, [], () => {
-      for (let k = 0; k < at.length; k++) {
+      for (let k = isJudged ? first : unjudged; k < (isJudged ? unjudged : end); k++) {
         const x = to.x(view.x[at[k]]), value = column[k];
-        if (value !== value || at[k] < trace.limit !== isJudged || !isSeen(view.x[at[k]])) continue;
+        if (value !== value) continue;
         const y = Math.max(area.y + 6, to.y(value));
         if (!free(x, y)) continue;
         if (value > range[1]) triangle(context, x, y, 4);

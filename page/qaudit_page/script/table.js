@@ -31,7 +31,7 @@ function timerAt(place) {
 }
 
 const hasState = place => place < trace.limit && trace.state.rowOf[place] >= 0;
-const hasTime = place => !'hbu'.includes(trace.kind[place]);
+const hasTime = place => trace.timed[place] === 1;
 
 // What the verdict is of a line, where it is not that the line is good.
 function standing(place) {
@@ -109,8 +109,9 @@ function turnTable(by) {
   fillTable();
 }
 
-// Selects a line. The table turns to it, unless it is there and stays; the view goes to it.
-function select(place, {stays = false, zooms = false, isNamed = true} = {}) {
+// Selects a line. The table turns to it, unless it is there and stays; the view goes to it, unless
+// it rests.
+function select(place, {stays = false, zooms = false, rests = false, isNamed = true} = {}) {
   if (!trace.count) return;
   view.selected = Math.max(0, Math.min(trace.count - 1, place));
   const at = view.selected, isThere = at >= tableFrom && at < tableFrom + ROWS;
@@ -118,17 +119,20 @@ function select(place, {stays = false, zooms = false, isNamed = true} = {}) {
   fillTable();
   const x = view.x[at], half = (view.to - view.from) / 2;
   if (zooms) showAbout(at);
-  else if (!isSeen(x)) show(x - half, x + half);
+  else if (!isSeen(x) && !rests) show(x - half, x + half);
   else redraw();
   byId('said').textContent = summaryOf(at);
   fillPanel();
-  if (isNamed) nameLine(trace.first + at);
+  if (isNamed) {
+    pair?.activate(RUN);
+    nameLine(trace.first + at);
+  }
 }
 
 // Puts a line into the address, where the browser lets a page do so.
 function nameLine(line) {
   try {
-    history.replaceState(null, '', `#line=${line}`);
+    history.replaceState(null, '', `#${LINKS}=${line}`);
   } catch (error) {
     if (error.name !== 'SecurityError') throw error;
   }

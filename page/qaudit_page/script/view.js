@@ -24,14 +24,14 @@ let frameWanted = 0, frames = 0, lastFrame = 0;
 
 // The x of each line: its time in milliseconds, which never falls here, or its number.
 function setAxis() {
-  const {count, first, kind, time, scale} = trace;
+  const {count, first, time, scale} = trace;
   const x = new Float64Array(count);
   let begin = 0;
-  while (begin < count - 1 && 'hbu'.includes(kind[begin])) begin++;
+  while (begin < count - 1 && !hasTime(begin)) begin++;
   let latest = count ? time[begin] / scale : 0;
   for (let i = 0; i < count; i++) {
     if (i > begin && time[i] / scale > latest) latest = time[i] / scale;
-    x[i] = view.byLine ? first + i : latest;
+    x[i] = view.byLine ? first + i : latest + trace.shift;
   }
   const last = count ? x[count - 1] : 1, start = count ? x[0] : 0, span = last - start || 1;
   Object.assign(view, {x, low: start - span * 0.015, high: last + span * 0.03});
@@ -40,12 +40,22 @@ function setAxis() {
 // The first place whose x is not below this one.
 const placeAt = x => firstNotBelow(view.x, x);
 
+// The x of a time of the trace, on the axis of times.
+const xOfTime = time => time / trace.scale + trace.shift;
+
+// The last place whose x is not above this one; -1 for none.
+function lastPlaceAt(x) {
+  let at = placeAt(x);
+  while (at < trace.count && view.x[at] === x) at++;
+  return at - 1;
+}
+
 // The x of a place, of one behind the lines that are shown, and of a packet from before them.
 const xOf = place => place < trace.count ? view.x[place] : view.high;
 function xOfPacket(packet) {
   const at = trace.packets.at[packet];
   if (at >= 0) return view.x[at];
-  return view.byLine ? trace.packets.line[packet] : trace.packets.before[packet] / trace.scale;
+  return view.byLine ? trace.packets.line[packet] : xOfTime(trace.packets.before[packet]);
 }
 
 const isSeen = x => x >= view.from && x <= view.to;
@@ -59,7 +69,12 @@ function show(from, to) {
   }
   if (to - from > all) [from, to] = [view.low, view.high];
   const by = Math.max(0, view.low - from) - Math.max(0, to - view.high);
-  Object.assign(view, {from: from + by, to: to + by});
+  showSpan(from + by, to + by);
+  pair?.otherOf(RUN)?.showSpan(view.from, view.to);
+}
+
+function showSpan(from, to) {
+  Object.assign(view, {from, to});
   redraw();
 }
 
@@ -96,7 +111,7 @@ function showAbout(place) {
     times *= 2;
   } while (times <= MOST_TIMES && placeAt(to) - placeAt(from) < LEAST_LINES);
   from = Math.min(from, x - silentBefore(place));
-  const deadline = place === trace.verdictAt ? trace.verdict.deadline / trace.scale : NaN;
+  const deadline = place === trace.verdictAt ? xOfTime(trace.verdict.deadline ?? NaN) : NaN;
   if (deadline < view.high) to = Math.max(to, deadline);
   const room = (to - from) * 0.04;
   if (to - from > all * 0.8) return showAll();
@@ -127,11 +142,12 @@ function update() {
   if (frameWanted) cancelAnimationFrame(frameWanted);
   frameWanted = 0;
   const begun = performance.now();
+  // First what asks for sizes, before anything changes them.
+  updateStrip();
   updatePackets();
   updateWindow();
   updateHeadroom();
   updateRtt();
-  updateStrip();
   moveCursors();
   lastFrame = performance.now() - begun;
   frames++;
@@ -209,7 +225,7 @@ function drawVerdict(context, area, to, at, verdict) {
 // The deadline that decides of a verdict, where there is one; its flag.
 function drawDeadline(context, area, to, verdict) {
   if (!verdict || !Number.isFinite(verdict.deadline) || view.byLine) return null;
-  const x = to.x(verdict.deadline / trace.scale);
+  const x = to.x(xOfTime(verdict.deadline));
   upright(context, area, x, colors.timer, 2, [2, 2]);
   return {x, text: 'its deadline', color: colors.timer, boxed: true};
 }
