@@ -17,4 +17,3 @@ returns c whole before =
     (λ _. record { value = line_kind_data kind; is = string_value (line_kind_name kind) _ _ (line_kind_is_plain kind) c.in_ok-kind.ensures; keeps = put_event nothing kind }) in
     later_if (codes "time") one (begun kind time) whole c.in_ok-kind.rest.now c.in_ok-next_value.field-0.now c.in_ok-time.rest.now refl (c.in_ok-next_value.ensures (codes "time") refl)
     (λ ended. record { value = integer time; is = integer_value time _ _ c.in_ok-time.ensures.0 (c.in_ok-time.ensures.1 ended); keeps = put_time one time }) first
-
