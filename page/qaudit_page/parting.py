@@ -4,10 +4,11 @@ import json
 from collections.abc import Iterator
 from dataclasses import dataclass
 from itertools import zip_longest
+from typing import Any
 
 from .conversion import object_of
 from .facts import SET_FOR
-from .lenient import Event
+from .lenient import SPACES, Event
 from .texts import count, html, plural, size
 from .trace import Trace
 
@@ -64,18 +65,46 @@ def events_of(trace: Trace) -> Iterator[tuple[int, str | bytes]]:
     """The lines of a trace that say something, but for the header, each with what it says apart
     from times."""
     header = trace.state.line[0] if trace.header else 0
+    firsts = first_numbers(trace)
     for line, text in enumerate(trace.lines, 1):
         if text.strip(b" \t\r") and line != header:
-            yield line, compared_by(text)
+            yield line, compared_by(text, firsts)
 
 
-def compared_by(text: bytes) -> str | bytes:
+def first_numbers(trace: Trace) -> dict[str, int]:
+    """The number of the first packet of each space. A sender may begin at any, as some do by
+    chance."""
+    packets = trace.packets
+    firsts: dict[str, int] = {}
+    for space, number in zip(packets.space, packets.number, strict=True):
+        firsts.setdefault(SPACES[space], number)
+    return firsts
+
+
+def compared_by(text: bytes, firsts: dict[str, int]) -> str | bytes:
     """What a line says apart from times, in one form; of what is no object, its bytes."""
     said = timeless(object_of(text))
     try:
-        return json.dumps(said, sort_keys=True) if said else text
+        return json.dumps(from_first(said, firsts), sort_keys=True) if said else text
     except RecursionError:
         return text
+
+
+def from_first(said: Event, firsts: dict[str, int]) -> Event:
+    """An event with its packet numbers counted from the first of its space."""
+    first = firsts.get(str(said.get("space")), 0)
+    number, ranges = said.get("number"), said.get("ranges")
+    if number is not None and is_whole(number):
+        return {**said, "number": number - first}
+    if isinstance(ranges, list) and all(isinstance(it, list) for it in ranges):
+        ends = [[end - first if is_whole(end) else end for end in it] for it in ranges]
+        return {**said, "ranges": ends}
+    return said
+
+
+def is_whole(value: Any) -> bool:
+    """Whether a value is a whole number, which true and false are not."""
+    return isinstance(value, int) and not isinstance(value, bool)
 
 
 def timeless(said: Event) -> Event:

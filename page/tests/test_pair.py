@@ -156,9 +156,23 @@ class Parted(unittest.TestCase):
         plain = '{"event":"discard","time":5,"space":"app"}'
         self.assertEqual(parted((HEADER, turned), (HEADER, plain)).lines, (None, None))
 
+    def test_numbers_count_from_the_first_of_their_space(self) -> None:
+        lost = '{"event":"lost","time":9,"space":"app","ranges":[[%d,%d]]}'
+        runs = [
+            (HEADER, sent(a, 1, "initial"), sent(b, 2), sent(b + 2, 3), acked(9, (b, b)))
+            + (lost % (b + 2, b + 2),)
+            for a, b in ((0, 0), (7, 2**61))
+        ]
+        self.assertEqual(parted(runs[0], runs[1]), Parting(5, (None, None)))
+        skips = (*runs[1][:3], sent(2**61 + 1, 3))
+        self.assertEqual(parted(runs[0], skips).lines, (4, 4))
+        self.assertEqual(parted(runs[0], (*runs[1][:5], lost % (2**61, 2**61 + 2))).lines, (6, 6))
+
     def test_true_is_not_1(self) -> None:
         other = sent(0).replace("true", "1", 1)
         self.assertEqual(parted((HEADER, sent(0)), (HEADER, other)).lines, (2, 2))
+        one, true = (f'{{"event":"sent","space":"app","number":{it}}}' for it in ("1", "true"))
+        self.assertEqual(parted((HEADER, one), (HEADER, true)).lines, (2, 2))
 
     def test_headers(self) -> None:
         other = HEADER.replace("1200", "1300").replace("{", '{"x_note":["a"],', 1)
