@@ -4,6 +4,8 @@
 
 mod kinds;
 mod law;
+#[cfg(test)]
+mod tests;
 mod texts;
 
 pub use kinds::{Kind, NoLog, kind_of};
