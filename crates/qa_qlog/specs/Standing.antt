@@ -1,4 +1,4 @@
--- How the texts that were returned stand to the bytes of a log.
+-- What the texts that were returned are of the bytes of a log.
 use Rattle.std.specs.Prelude.{◌≡◌, ◌++◌, ℕ, List, true}
 use Rattle.qa_qlog.specs.Texts.{Numbered, Read, Rest, texts_by, left}
 use Rattle.qa_qlog.specs.Taking.{MayFollow}

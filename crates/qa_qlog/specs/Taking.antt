@@ -99,7 +99,7 @@ pub record Finds (old : Rest) (result : Result (Option Found) TextFault) (new : 
       × (old.uncut.refused ≡ None)))
   pub err : IfErr result (λ fault. Fails old fault new)
 
--- a call that was asked for the next text found it, behind blank pieces
+-- a call that was asked for the next text found it, after blank pieces
 pub record FindsText (old : Rest) (result : Result (Option Found) TextFault) (new : Rest)
     : Type 0 where
   pub refused : StaysFailed old result new

@@ -11,9 +11,9 @@ use std::marker::Model;
 use thiserror::Error;
 
 /// How many bytes a text has at most: 1 MiB.
-const MAX_TEXT_LENGTH: usize = 1_048_576;
+pub const MAX_TEXT_LENGTH: usize = 1_048_576;
 /// Begins each text of a log in the form of RFC 7464.
-const RECORD_SEPARATOR: u8 = 0x1E;
+pub const RECORD_SEPARATOR: u8 = 0x1E;
 
 /// The byte at which the texts of a log are cut.
 #[derive(Clone, Copy, Debug, PartialEq, Eq)]
@@ -238,7 +238,7 @@ fn is_blank(bytes: &[u8]) -> bool
 }
 
 /// Whether a byte is white space, as ASCII has it.
-fn is_white(byte: u8) -> bool
+pub fn is_white(byte: u8) -> bool
     ensures { result ≡ texts.is_white byte }
 {
     (9 <= byte && byte <= 13) || byte == b' '

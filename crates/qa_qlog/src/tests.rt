@@ -1,0 +1,2 @@
+//! Logs whose texts and lines were found by hand.
+mod texts;
