@@ -19,10 +19,12 @@ PLACE = """const {x, y, width, height} =
 return {x: x + scrollX, y: y + scrollY, width, height};"""
 SECONDS = 60
 # No window of Firefox is narrower than this. A size is asked for so often until it is there.
-LEAST_WIDTH = 450
+LEAST_WIDTH = 500
 TRIES = 10
 # What a source of input does, or a list of that.
 Action = dict[str, Any]
+# The buttons of a mouse by their numbers.
+BUTTONS = ("left", "middle", "right")
 PAUSE: Action = {"type": "pause"}
 # The keys that are held while the mouse is used, by the bits that Chromium has for them.
 HELD = {1: "\ue00a", 2: "\ue009", 8: "\ue008"}
@@ -63,6 +65,11 @@ const said = Services.console.getMessageArray().filter(it => it instanceof Ci.ns
   .map(it => `${it.sourceName}: ${it.errorMessage}`);
 Services.console.reset();
 return said;
+"""
+ZOOM = "gBrowser.selectedBrowser.browsingContext.top.fullZoom = arguments[0]"
+DRESS = """
+Services.prefs.setIntPref('layout.css.prefers-color-scheme.content-override', arguments[0]);
+gBrowser.selectedBrowser.browsingContext.top.mediumOverride = arguments[1];
 """
 SHOT = """
 return (async ({x, y, width, height}) => {
@@ -138,6 +145,7 @@ class Firefox:
 
     def __init__(self, width: int = 1200, height: int = 900, *, is_dark: bool = False) -> None:
         self.folder = tempfile.TemporaryDirectory()
+        self.zoom = 1.0
         port = free_port()
         wanted = PREFERENCES | {"marionette.port": port}
         lines = (f'user_pref("{name}", {json.dumps(it)});\n' for name, it in wanted.items())
@@ -177,9 +185,8 @@ class Firefox:
     def resize(self, width: int, height: int) -> None:
         """Sets the size of what the page has, in pixels of the page, which are larger ones if a
         window cannot be as narrow."""
-        times = max(1.0, LEAST_WIDTH / width)
-        zoom = "gBrowser.selectedBrowser.browsingContext.top.fullZoom = arguments[0]"
-        self.of_firefox(zoom, times)
+        times = self.zoom = max(1.0, LEAST_WIDTH / width)
+        self.of_firefox(ZOOM, times)
         for _ in range(TRIES):
             sizes = self.run("return [innerWidth, innerHeight, outerWidth, outerHeight]")
             if sizes[:2] == [width, height]:
@@ -190,17 +197,13 @@ class Firefox:
 
     def dress(self, *, is_dark: bool, media: str = "screen") -> None:
         """Sets which colours a person prefers, and whether it is a screen or paper."""
-        script = """
-        const context = gBrowser.selectedBrowser.browsingContext.top;
-        context.prefersColorSchemeOverride = arguments[0];
-        context.mediumOverride = arguments[1];
-        """
-        self.of_firefox(script, "dark" if is_dark else "light", "" if media == "screen" else media)
-        self.media = (is_dark, media)
+        self.of_firefox(DRESS, 0 if is_dark else 1, "" if media == "screen" else media)
 
     def get(self, address: str) -> None:
-        """Opens an address."""
+        """Opens an address, in the size that was set."""
         self.marionette.ask("WebDriver:Navigate", url=address)
+        if self.zoom != 1:
+            self.of_firefox(ZOOM, self.zoom)
 
     def open(self, page: Path, fragment: str = "") -> None:
         """Opens a page anew and waits until it is drawn."""
@@ -242,11 +245,14 @@ class Firefox:
             deltas = {name: round(more.get(name, 0)) for name in ("deltaX", "deltaY")}
             self.act(wheel([{**move, "type": "scroll", **deltas}]), held)
             return
-        acts = [move]
-        if kind != "mouseMoved":
-            button = {"left": 0, "middle": 1, "right": 2}[more.get("button", "left")]
-            what = "pointerDown" if kind == "mousePressed" else "pointerUp"
-            acts.append({"type": what, "button": button})
+        # Where it was before, the mouse would not be moved, though a page may have scrolled.
+        acts = [{**move, "x": move["x"] + 1}, move] if kind == "mouseMoved" else [move]
+        button = BUTTONS.index(more["button"]) if more.get("button") in BUTTONS else 0
+        down, up = ({"type": f"pointer{it}", "button": button} for it in ("Down", "Up"))
+        if kind == "mousePressed":
+            acts += [down, up] * (more.get("clickCount", 1) - 1) + [down]
+        elif kind == "mouseReleased":
+            acts.append(up)
         self.act(pointer("mouse", "mouse", acts), held)
 
     def act(self, source: Action, modifiers: int) -> None:

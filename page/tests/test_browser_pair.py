@@ -13,6 +13,7 @@ BEGIN = (initial(0, 0), heard(0, 20))
 CLIENT_END = (CLIENT, *BEGIN, *(sent(n, 100_000 * n) for n in range(1, 10)))
 SERVER_END = (HEADER, initial(0, 1_010), *(sent(n, 1_050_000 + 100_000 * n) for n in range(1, 10)))
 RUNS = ("first", "second")
+MARKED = "return [...document.querySelectorAll('.run.active')].map(it => it.id)"
 TOP = "return document.querySelector(arguments[0]).getBoundingClientRect().top"
 
 
@@ -141,8 +142,7 @@ class Together(Browsing):
         self.mouse("mousePressed", x, y)
         self.mouse("mouseReleased", x, y)
         self.browser.settled()
-        marked = "return [...document.querySelectorAll('.run.active')].map(it => it.id)"
-        self.assertEqual(self.browser.run(marked), ["second-run", "second-below"])
+        self.assertEqual(self.browser.run(MARKED), ["second-run", "second-below"])
         self.key("End")
         self.assertEqual(self.lines(), [1, len(SERVER_END)])
         self.key("?")
@@ -154,6 +154,7 @@ class Together(Browsing):
         self.show(self.page, "#second=5")
         self.assertEqual(self.lines(), [None, 5])
         self.assertEqual(self.text("#second-rows .selected th"), "5")
+        self.assertEqual(self.browser.run(MARKED), ["second-run", "second-below"])
         self.assertEqual(*self.spans())
 
     def test_a_line_that_is_not_there(self) -> None:

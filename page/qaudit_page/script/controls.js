@@ -11,8 +11,10 @@ function followAddress() {
   const found = new RegExp(`^#${LINKS}=(\\d{1,10})$`).exec(location.hash);
   if (!found) return false;
   const place = placeShown(+found[1]);
-  if (place >= 0) select(place, {zooms: true, isNamed: false});
-  else tell(`Line ${found[1]} is not in this page, which has lines ${trace.first} to ` +
+  if (place >= 0) {
+    pair?.activate(RUN);
+    select(place, {zooms: true, isNamed: false});
+  } else tell(`Line ${found[1]} is not in this page, which has lines ${trace.first} to ` +
     `${trace.first + trace.count - 1} of ${trace.total}.`);
   return place >= 0;
 }

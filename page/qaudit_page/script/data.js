@@ -48,6 +48,14 @@ function codesOf(digits) {
   return codes;
 }
 
+// Whether each line has a time of its own, which a header, a blank line and one that cannot be read
+// do not have.
+function timedOf(kinds) {
+  const timed = new Uint8Array(kinds.length);
+  for (let i = 0; i < kinds.length; i++) timed[i] = 'hbu'.includes(kinds[i]) ? 0 : 1;
+  return timed;
+}
+
 const trace = {};
 
 function unpack(said, text) {
@@ -59,7 +67,7 @@ function unpack(said, text) {
   // How much later than its clock says it is drawn, in milliseconds, beside another run.
   trace.shift = said.shift || 0;
   trace.space = codesOf(said.space);
-  trace.timed = Uint8Array.from({length: said.count}, (_, i) => 'hbu'.includes(said.kind[i]) ? 0 : 1);
+  trace.timed = timedOf(said.kind);
   // The place of the first line that was not judged.
   trace.limit = said.unjudged === null ? said.count : Math.max(0, said.unjudged - said.first);
   trace.stopAt = said.unjudged === null ? -1 : placeShown(said.unjudged);
