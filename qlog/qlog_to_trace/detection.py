@@ -21,12 +21,15 @@ KINDS_OF_FILE = {
 def form_of(file: BinaryIO) -> Form:
     """The form of a log, by its first bytes."""
     file.seek(0)
+    # A mark may have an LF.
+    marked = file.read(max(map(len, KINDS_OF_FILE)))
+    for mark, kind in KINDS_OF_FILE.items():
+        if marked.startswith(mark):
+            raise Unusable(kind)
+    file.seek(0)
     first = file.readline(LONGEST_RECORD)
     if not first:
         raise Unusable("empty")
-    for mark, kind in KINDS_OF_FILE.items():
-        if first.startswith(mark):
-            raise Unusable(kind)
     if first.startswith(RECORD_SEPARATOR):
         return Sequence(file)
     if is_netlog(first):

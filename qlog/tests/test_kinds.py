@@ -58,6 +58,7 @@ class NoLogs(unittest.TestCase):
         self.refused(b"BZh" + log.encode(), "compressed by bzip2: unpack it first")
         self.refused(b"\xef\xbb\xbf" + log.encode(), "it begins with a byte order mark")
         self.refused(b"\xd4\xc3\xb2\xa1\x02\x00", "a capture of packets and no log")
+        self.refused(b"\n\r\r\n\x6c\x00M<+\x1a", "a capture of packets and no log")
         self.refused(converted(EVENTS).text, "this is already a trace, as qaudit reads it")
 
     def test_compressed_logs(self) -> None:

@@ -1,2 +1,3 @@
-//! Logs whose texts and lines were found by hand.
+//! Logs whose texts, lines and kinds were found by hand.
+mod kinds;
 mod texts;
