@@ -635,7 +635,7 @@ class Commands(unittest.TestCase):
         self.fails(3, "cannot write", "--output", "/dev/full", TRACES / "timer-late.trace")
 
     def test_wrong_arguments(self) -> None:
-        for words in (("--from", "0"), ("--to", "x"), ("--nothing",), ("a", "b")):
+        for words in (("--from", "0"), ("--to", "x"), ("--nothing",), ("a", "b", "c")):
             ended = self.run_command(*words)
             self.assertEqual(ended.returncode, 64)
             self.assertEqual(ended.stdout, b"")

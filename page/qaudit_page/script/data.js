@@ -143,7 +143,7 @@ function unpackState(said) {
   if (trace.firstSample < 0) trace.firstSample = trace.count;
 }
 
-// The values of rows for each line, by loops: a function for each value takes several times as long.
+// The values of rows for each line; NaN for those before the first row and those not judged.
 function spread(values, rowOf) {
   const found = new Float64Array(rowOf.length);
   for (let i = 0; i < rowOf.length; i++) found[i] = rowOf[i] < 0 ? NaN : values[rowOf[i]];
