@@ -150,7 +150,7 @@ impl Cutter {
             → BeginsTooLong self.old }
         ensures memory { self.old.refused ≡ None → IsErrOf result SplitFault.OutOfMemory → ⊥ }
     {
-        // Written out, and not by `find` and `take`, which cost each line of a trace 13 instructions.
+        // Not by `find` and `take`, which take 13 instructions more for each line of a trace.
         if let Some(fault) = self.refused {
             return Err(fault);
         }
@@ -213,19 +213,25 @@ impl Cutter {
             return Err(fault);
         }
         let rest = &self.bytes[self.start..];
-        let (len, taken) = match first_mark(self.mark, rest, self.searched) {
-            Some(place) => (place, place + 1),
-            None => (rest.len(), rest.len()),
+        let place = match first_mark(self.mark, rest, self.searched) {
+            Some(at) => Place {
+                len: at,
+                taken: at + 1,
+            },
+            None => Place {
+                len: rest.len(),
+                taken: rest.len(),
+            },
         };
-        if self.limit < len {
+        if self.limit < place.len {
             self.refused = Some(SplitFault::TooLong);
             return Err(SplitFault::TooLong);
         }
-        self.searched = len;
-        if taken == len && !(self.closed && 0 < len) {
+        self.searched = place.len;
+        if place.taken == place.len && !(self.closed && 0 < place.len) {
             return Ok(None);
         }
-        Ok(Some(Place { len, taken }))
+        Ok(Some(place))
     }
 }
 
