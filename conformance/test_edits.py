@@ -8,6 +8,7 @@ each edit that it finds in must-fail/ but those that say not to.
 import csv
 import os
 import shutil
+import signal
 import subprocess
 import sys
 import unittest
@@ -18,7 +19,7 @@ from testing import new_folder, write_program
 
 KIT = "kit-1 logic 2"
 RT = f"""\
-import pathlib, sys
+import os, pathlib, signal, sys
 if sys.argv[1] == "version":
     print("{KIT}")
     sys.exit()
@@ -29,8 +30,10 @@ for edit in sorted(pathlib.Path("crates").glob("*/must-fail/*.edit")):
         continue
     if "still proved" in edit.read_text():
         print(f"rt: {{name}}: NOT REFUSED: the crate is still proved with this edit")
-    elif "stops the run" in edit.read_text():
+    elif "stops the kit" in edit.read_text():
         sys.exit("killed")
+    elif "stops the run" in edit.read_text():
+        os.kill(os.getppid(), signal.SIGKILL)
     elif "is untried" not in edit.read_text():
         print(f"rt: {{name}}: refused, as it must be: src/lib.rt:1:1: error")
 """
@@ -97,13 +100,19 @@ class EditsTest(unittest.TestCase):
         with (self.top / "edits/RESULT").open(newline="") as file:
             return {row.pop("crate"): row for row in csv.DictReader(file, delimiter="\t")}
 
+    def asked(self, printed: list[str]) -> list[str]:
+        """What the stand-in for `rt` was asked for."""
+        return [line for line in printed if line.startswith("rt: ci")]
+
     # What it tries.
 
     def test_all_are_refused(self) -> None:
         commit = self.git("rev-parse", "HEAD")
         printed = self.run_edits(0)
-        self.assertEqual(printed[0], "rt: ci qa qb")
+        self.assertEqual(self.asked(printed), ["rt: ci qa", "rt: ci qb"])
         self.assertNotIn("of_the_gate", "\n".join(printed))
+        for name in ("qa/one", "qb/two"):
+            self.assertEqual(sum(f"must-fail {name}.edit" in line for line in printed), 1)
         rows = self.result()
         self.assertEqual(list(rows), ["qa", "qb"])
         for row in rows.values():
@@ -127,7 +136,7 @@ class EditsTest(unittest.TestCase):
         self.assertEqual(rows["qa"]["refused"], "0")
         self.assertEqual(rows["qa"]["not_refused"], "qa/one")
         self.assertEqual(rows["qb"]["not_refused"], "none")
-        self.assertEqual(self.run_edits(1)[0], "rt: ci qa")
+        self.assertEqual(self.asked(self.run_edits(1)), ["rt: ci qa"])
 
     def test_one_is_not_tried(self) -> None:
         self.write("edits/qb/two.edit", "is untried\n")
@@ -142,25 +151,31 @@ class EditsTest(unittest.TestCase):
         self.assertEqual(self.result()["qb"]["refused"], "1")
         self.assertEqual(self.result()["qb"]["not_refused"], "qb/three")
 
-    def test_run_that_is_stopped(self) -> None:
-        self.write("edits/qb/two.edit", "stops the run\n")
+    def test_kit_that_fails(self) -> None:
+        self.write("edits/qb/two.edit", "stops the kit\n")
         self.commit()
         self.run_edits(1)
         self.assertEqual(self.result()["qa"]["not_refused"], "none")
         self.assertEqual(self.result()["qb"]["not_refused"], "qb/two")
 
+    def test_run_that_is_stopped(self) -> None:
+        self.write("edits/qb/two.edit", "stops the run\n")
+        self.commit()
+        self.run_edits(-signal.SIGKILL)
+        self.assertEqual([*self.result()], ["qa"])
+
     def test_named_crate(self) -> None:
         self.write("edits/qa/one.edit", "still proved\n")
         self.commit()
         printed = self.run_edits(0, "qb")
-        self.assertEqual(printed[0], "rt: ci qb")
+        self.assertEqual(self.asked(printed), ["rt: ci qb"])
         self.assertEqual(list(self.result()), ["qb"])
         self.run_edits(1, "qa")
         self.assertEqual(list(self.result()), ["qa", "qb"])
 
     def test_named_crate_is_tried_again(self) -> None:
         self.run_edits(0)
-        self.assertEqual(self.run_edits(0, "qa")[0], "rt: ci qa")
+        self.assertEqual(self.asked(self.run_edits(0, "qa")), ["rt: ci qa"])
 
     def test_crate_without_edits(self) -> None:
         printed = self.run_edits(1, "qc")
@@ -180,7 +195,8 @@ class EditsTest(unittest.TestCase):
         why = f"edits/RESULT has no row of the sources as they are for {' '.join(crates)}:"
         self.assertIn(why, printed[0])
         self.commit()
-        self.assertEqual(self.run_edits(0)[0], f"rt: ci {' '.join(crates)}")
+        wanted = [f"rt: ci {crate}" for crate in crates]
+        self.assertEqual(self.asked(self.run_edits(0)), wanted)
         self.run_edits(0, "--check")
 
     def test_no_result(self) -> None:
