@@ -8,6 +8,8 @@ import sys
 from pathlib import Path
 from typing import Any
 
+from tests.driven import PLACE, Driven
+
 # Where Debian's package lies, for a Python that is not Debian's.
 sys.path.append("/usr/lib/python3/dist-packages")
 
@@ -23,14 +25,10 @@ def module(name: str) -> Any:
 WEBDRIVER = module("")
 DRIVER = shutil.which("chromedriver")
 MISSING = "" if WEBDRIVER and DRIVER else "no chromium-driver or no python3-selenium is installed"
-READY = "return window.qauditPage !== undefined || !document.getElementById('trouble').hidden"
-PLACE = """const {x, y, width, height} =
-  document.querySelector(arguments[0]).getBoundingClientRect();
-return {x: x + scrollX, y: y + scrollY, width, height};"""
 SECONDS = 30
 
 
-class Browser:
+class Browser(Driven):
     """A browser whose window is this wide, in light or in dark colours."""
 
     def __init__(self, width: int = 1200, height: int = 900, *, is_dark: bool = False) -> None:
@@ -68,13 +66,6 @@ class Browser:
         """Opens an address."""
         self.driver.get(address)
 
-    def open(self, page: Path, fragment: str = "") -> None:
-        """Opens a page anew and waits until it is drawn."""
-        self.get("about:blank")
-        self.messages()
-        self.get(page.resolve().as_uri() + fragment)
-        self.wait(READY)
-
     def wait(self, condition: str) -> None:
         """Waits until a script returns true."""
         waiting = module(".support.ui").WebDriverWait(self.driver, SECONDS, 0.02)
@@ -87,13 +78,6 @@ class Browser:
     def run_async(self, script: str, *arguments: object) -> Any:
         """What a script hands to the function that is its last argument."""
         return self.driver.execute_async_script(script, *arguments)
-
-    def settled(self) -> None:
-        """Waits until all that was asked for is drawn."""
-        self.run_async(
-            "const done = arguments[0];"
-            "requestAnimationFrame(() => requestAnimationFrame(() => done(1)))"
-        )
 
     def messages(self) -> list[str]:
         """What stands on the console since this was last asked."""

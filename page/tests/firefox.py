@@ -11,12 +11,10 @@ import time
 from pathlib import Path
 from typing import Any
 
+from tests.driven import PLACE, Driven
+
 PROGRAM = shutil.which("firefox-esr") or shutil.which("firefox")
 MISSING = "" if PROGRAM else "no firefox-esr is installed"
-READY = "return window.qauditPage !== undefined || !document.getElementById('trouble').hidden"
-PLACE = """const {x, y, width, height} =
-  document.querySelector(arguments[0]).getBoundingClientRect();
-return {x: x + scrollX, y: y + scrollY, width, height};"""
 SECONDS = 60
 # No window of Firefox is narrower than this. A size is asked for so often until it is there.
 LEAST_WIDTH = 500
@@ -140,7 +138,7 @@ def free_port() -> int:
         return int(probe.getsockname()[1])
 
 
-class Firefox:
+class Firefox(Driven):
     """A browser with what the tests ask of one, as `Browser` has it."""
 
     def __init__(self, width: int = 1200, height: int = 900, *, is_dark: bool = False) -> None:
@@ -205,13 +203,6 @@ class Firefox:
         if self.zoom != 1:
             self.of_firefox(ZOOM, self.zoom)
 
-    def open(self, page: Path, fragment: str = "") -> None:
-        """Opens a page anew and waits until it is drawn."""
-        self.get("about:blank")
-        self.messages()
-        self.get(page.resolve().as_uri() + fragment)
-        self.wait(READY)
-
     def wait(self, condition: str) -> None:
         """Waits until a script returns true."""
         end = time.monotonic() + SECONDS
@@ -219,13 +210,6 @@ class Firefox:
             if time.monotonic() > end:
                 raise TimeoutError(condition)
             time.sleep(0.02)
-
-    def settled(self) -> None:
-        """Waits until all that was asked for is drawn."""
-        self.run_async(
-            "const done = arguments[0];"
-            "requestAnimationFrame(() => requestAnimationFrame(() => done(1)))"
-        )
 
     def messages(self) -> list[str]:
         """What stands on the console since this was last asked."""
