@@ -301,6 +301,18 @@ class Using(Browsing):
             self.assertIn(f"{number + 2:,}", shown)
             self.assertEqual(self.browser.run(cut), [])
 
+    def test_acks_of_before_leave_a_lane_as_it_is(self) -> None:
+        acks = (sent(n, n * 1_000, size=50).replace("true", "false") for n in range(50))
+        later = (sent(5_000 + n, 1_000_000 + n * 1_000) for n in range(10))
+        self.show(made(joined(HEADER, *acks, *later)))
+        self.browser.run("location.hash = '#line=60'")
+        self.key("+")
+        self.key("+")
+        self.key("+")
+        self.assertGreater(self.view()[0], 500)
+        low, high = self.browser.run("return [qauditPage.lanes[0].low, qauditPage.lanes[0].high]")
+        self.assertLess(high - low, 20)
+
     def test_a_space_is_hidden(self) -> None:
         self.show(self.page)
         labels = (

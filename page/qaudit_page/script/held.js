@@ -53,6 +53,7 @@ function heldColumns(area, to) {
 
 function weigh(weights, wide, from, until, code) {
   const begin = Math.max(0, from), end = Math.min(wide, until);
+  if (!(end > begin)) return;
   for (let column = Math.floor(begin); column < end; column++)
     weights[column * HELD.length + code] += Math.min(end, column + 1) - Math.max(begin, column);
 }

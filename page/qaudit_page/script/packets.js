@@ -13,13 +13,14 @@ const LEAVES = {[PROBE]: 'probe', [RECOVERY]: 'on entry to recovery'};
 const BASES = {lossDelay: 'loss delay', timeout: 'PTO (no backoff)'};
 let shownPackets = [], timerLane = null, heldLane = null, isDense = false, packetRadius = 3.6;
 
-// Whether a packet, or the time until it was ended, is in the view.
+// Whether a packet, or the time until it was ended, is in the view. A packet for which no
+// acknowledgment is awaited, and none came, has no such time.
 function isPacketSeen(packet) {
   const x = xOfPacket(packet);
   if (x > view.to) return false;
   if (x >= view.from) return true;
   const {how, end} = trace.packets;
-  return how[packet] === 'open' || xOf(end[packet]) >= view.from;
+  return how[packet] === 'open' || (how[packet] !== 'bare' && xOf(end[packet]) >= view.from);
 }
 
 function lookForPackets() {
@@ -194,9 +195,9 @@ function stepsOf(space, to, lane) {
 // Of packets at one point one is drawn, but each that was lost.
 function thinned(area, to) {
   const free = [0, 1, 2].map(() => cells(area, isDense ? 2 : 0.5));
-  const {space, lost} = trace.packets;
-  return shownPackets.filter(p => xOfPacket(p) < view.from || lost[p] === lost[p] ||
-    free[space[p]](to.x(xOfPacket(p)), yOfPacket(area, p)));
+  const {space, lost, x} = trace.packets;
+  return shownPackets.filter(p => x[p] < view.from || lost[p] === lost[p] ||
+    free[space[p]](to.x(x[p]), yOfPacket(area, p)));
 }
 
 // From sent to what became of each packet; grey from where lines were not judged.
@@ -282,10 +283,11 @@ function drawLeaves(context, area, to) {
 // A cross where a packet was declared lost.
 function drawLosses(context, area, to) {
   const apart = cells(area, isDense ? 4 : 1), {lost} = trace.packets;
+  const declared = shownPackets.filter(p => lost[p] < trace.count);
   for (const isJudged of [true, false])
     stroked(context, isJudged ? colors.lost : colors.soft, 2, [], () => {
-      for (const p of shownPackets) {
-        if (!(lost[p] < trace.count) || lost[p] < trace.limit !== isJudged) continue;
+      for (const p of declared) {
+        if (lost[p] < trace.limit !== isJudged) continue;
         const x = to.x(view.x[lost[p]]), y = yOfPacket(area, p);
         if (x < area.x - 5 || x > area.x + area.w + 5 || !apart(x, y)) continue;
         cross(context, x, y, Math.max(3.2, packetRadius));
@@ -296,9 +298,9 @@ function drawLosses(context, area, to) {
 // How long the timer has to run: a fall from each line that sets it to the next, and to 0 where it
 // fires. Below 0 it is late.
 function drawTimer(context, area, to) {
-  const {deadline} = trace.state, zero = inLane(area, timerLane, 0);
-  const y = (from, place) =>
-    inLane(area, timerLane, (deadline[from] - trace.time[place]) / trace.scale);
+  const {deadline} = trace.state, {time} = trace, zero = inLane(area, timerLane, 0);
+  const height = timerLane.tall / (timerLane.high - timerLane.low) / trace.scale;
+  const y = (from, place) => zero - (deadline[from] - time[place]) * height;
   context.save();
   context.beginPath();
   context.rect(area.x, area.y + timerLane.top, area.w, area.h - timerLane.top);

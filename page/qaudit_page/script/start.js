@@ -274,7 +274,7 @@ function begin(started) {
   const seen = {
     ready: performance.now(), took: performance.now() - started,
     frames: () => frames, lastFrame: () => lastFrame, trace, view, lines,
-    ranges: () => ({rtt: rttRange, window: windowRange}), heldLane: () => heldLane, cursor: () => cursorAt, heldColumns: () => {
+    ranges: () => ({rtt: rttRange, window: windowRange}), lanes, heldLane: () => heldLane, cursor: () => cursorAt, heldColumns: () => {
       const area = charts.packets.getArea();
       return [...heldColumns(area, scaleOf(area, [0, 1]))];
     },

@@ -48,7 +48,11 @@ function timeout(i) {
   return (smoothed[i] + Math.max(4 * rttvar[i], scale) + delay) / scale;
 }
 
-// The places of the view, a few for each pixel: ends and extremes of each column of pixels.
+// How many pixels wide a column is of which only ends and extremes are drawn.
+const COLUMN = 2;
+
+// The places of the view, a few for each pixel: all of them, or of many the ends and extremes of
+// each column.
 function picked(columns, pixels) {
   const low = Math.max(0, placeAt(view.from) - 1);
   const high = Math.min(trace.limit, trace.count, placeAt(view.to) + 2) - 1;
@@ -57,7 +61,7 @@ function picked(columns, pixels) {
     for (let i = low; i <= high; i++) places.push(i);
     return places;
   }
-  const width = (view.to - view.from) / pixels;
+  const width = (view.to - view.from) / pixels * COLUMN;
   for (let i = low; i <= high;) {
     const from = Math.floor((view.x[i] - view.from) / width);
     const end = Math.max(view.x[i], view.from + (from + 1) * width);
@@ -71,7 +75,8 @@ function pickColumn(columns, begin, high, end, places) {
   while (next <= high && view.x[next] < end) next++;
   const found = [begin, next - 1];
   for (const column of columns) pickExtremes(column, begin, next, found);
-  places.push(...[...new Set(found)].sort((a, b) => a - b));
+  found.sort((a, b) => a - b);
+  for (let k = 0; k < found.length; k++) if (found[k] !== found[k - 1]) places.push(found[k]);
   return next;
 }
 
@@ -80,8 +85,14 @@ function pickExtremes(column, begin, end, found) {
   let least = begin, most = begin, low = column[begin], high = low;
   for (let i = begin + 1; i < end; i++) {
     const value = column[i];
-    if (value < low) [least, low] = [i, value];
-    if (value > high) [most, high] = [i, value];
+    if (value < low) {
+      least = i;
+      low = value;
+    }
+    if (value > high) {
+      most = i;
+      high = value;
+    }
   }
   found.push(least, most);
 }

@@ -35,6 +35,14 @@ function setAxis() {
   }
   const last = count ? x[count - 1] : 1, start = count ? x[0] : 0, span = last - start || 1;
   Object.assign(view, {x, low: start - span * 0.015, high: last + span * 0.03});
+  setPacketAxis();
+}
+
+// The x of each packet, also of one from before the lines that are shown.
+function setPacketAxis() {
+  const {packets} = trace, {at, line, before} = packets;
+  packets.x = Float64Array.from(at, (place, p) =>
+    place >= 0 ? view.x[place] : view.byLine ? line[p] : xOfTime(before[p]));
 }
 
 // The first place whose x is not below this one.
@@ -50,13 +58,9 @@ function lastPlaceAt(x) {
   return at - 1;
 }
 
-// The x of a place, of one behind the lines that are shown, and of a packet from before them.
+// The x of a place, of one behind the lines that are shown, and of a packet.
 const xOf = place => place < trace.count ? view.x[place] : view.high;
-function xOfPacket(packet) {
-  const at = trace.packets.at[packet];
-  if (at >= 0) return view.x[at];
-  return view.byLine ? trace.packets.line[packet] : xOfTime(trace.packets.before[packet]);
-}
+const xOfPacket = packet => trace.packets.x[packet];
 
 const isSeen = x => x >= view.from && x <= view.to;
 
