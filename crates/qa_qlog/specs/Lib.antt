@@ -3,3 +3,4 @@ pub mod Marks
 pub mod Standing
 pub mod Taking
 pub mod Texts
+pub mod Times

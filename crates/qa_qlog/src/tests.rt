@@ -1,3 +1,4 @@
-//! Logs whose texts, lines and kinds were found by hand.
+//! Logs whose texts, lines, kinds and times were found by hand.
 mod kinds;
 mod texts;
+mod times;
