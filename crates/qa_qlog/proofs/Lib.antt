@@ -1,4 +1,5 @@
 pub mod Beginning
+pub mod Categories
 pub mod Digits
 pub mod Finding
 pub mod Laws
