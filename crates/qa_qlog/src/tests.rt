@@ -1,3 +1,5 @@
-//! Logs whose texts, lines and kinds were found by hand.
+//! Logs whose texts, lines, kinds, times and names were found by hand.
 mod kinds;
+mod names;
 mod texts;
+mod times;
