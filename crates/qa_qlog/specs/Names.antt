@@ -4,7 +4,14 @@ use Rattle.std.specs.Prelude.{if◌then◌else◌}
 use Rattle.std.specs.List.{list_any}
 use Rattle.std.specs.Option.{option_or}
 use Rattle.qa_qlog.specs.declared.names.EventName.{EventName}
-use Rattle.qa_qlog.specs.declared.names.EventName.TheVariants.{PacketSent, PacketReceived, PacketLost, PacketsLost, MetricsUpdated, RecoveryParametersSet, CongestionStateUpdated, LossTimerUpdated, KeyUpdated, KeyRetired, KeyDiscarded, ParametersSet}
+use Rattle.qa_qlog.specs.declared.names.EventName.TheVariants.{PacketSent, PacketReceived}
+use Rattle.qa_qlog.specs.declared.names.EventName.TheVariants.{PacketLost, PacketsLost}
+use Rattle.qa_qlog.specs.declared.names.EventName.TheVariants.{MetricsUpdated}
+use Rattle.qa_qlog.specs.declared.names.EventName.TheVariants.{RecoveryParametersSet}
+use Rattle.qa_qlog.specs.declared.names.EventName.TheVariants.{CongestionStateUpdated}
+use Rattle.qa_qlog.specs.declared.names.EventName.TheVariants.{LossTimerUpdated, KeyUpdated}
+use Rattle.qa_qlog.specs.declared.names.EventName.TheVariants.{KeyRetired, KeyDiscarded}
+use Rattle.qa_qlog.specs.declared.names.EventName.TheVariants.{ParametersSet}
 
 abbrev pub of_packets : List (List ℕ × EventName)
 of_packets =
