@@ -87,10 +87,11 @@ class Compressed(unittest.TestCase):
 
     def test_no_more_is_unpacked_than_is_taken(self) -> None:
         zeros = bytes(MANY)
-        for data in (gzip.compress(zeros), lzma.compress(zeros)):
-            self.assertEqual(len(compressed.unpacked(data, 100, "zeros")), 100)
-        if not NO_ZSTD:
-            self.assertEqual(len(compressed.unpacked(zstd(zeros), 100, "zeros")), 100)
+        forms = [gzip.compress(zeros), lzma.compress(zeros)]
+        forms += [] if NO_ZSTD else [zstd(zeros)]
+        for data in forms:
+            with self.file("zeros", data).open("rb") as file:
+                self.assertEqual(len(compressed.unpacked(file, 100, "zeros")), 100)
 
     def test_what_takes_too_much_memory(self) -> None:
         """A dictionary of xz may be larger than memory."""
@@ -269,6 +270,7 @@ class Versions(unittest.TestCase):
         """As release/pack makes it."""
         folder = Path(self.enterContext(tempfile.TemporaryDirectory()))
         shutil.copytree(PAGE / "qaudit_page", folder / "modules" / "qaudit_page")
+        shutil.copytree(PROJECT / "qlog/qlog_to_trace", folder / "modules" / "qlog_to_trace")
         (folder / "modules" / "qaudit_page" / "VERSION").write_text("1.2.3\n")
         target = folder / "qaudit-page"
         zipapp.create_archive(folder / "modules", target, main="qaudit_page.command:program")

@@ -12,7 +12,6 @@ from qlog_to_trace.scanner import DECODER
 from .made import (
     TOP,
     End,
-    Event,
     converted,
     document,
     header,
@@ -28,7 +27,7 @@ REAL = TOP / "conformance" / "real" / "traces"
 PLACE = re.compile(r"(guessed at )?(line|byte) (\d+)(?: to (line|byte) (\d+))?")
 # The events of a log that a line can be from, without their categories. Keys are there once a
 # Handshake packet came, or by an event of their own.
-FROM = {
+FROM: dict[str, tuple[str, ...]] = {
     "sent": ("packet_sent",),
     "ack": ("packet_received",),
     "lost": ("packet_lost",),
@@ -39,7 +38,7 @@ FROM = {
     "discard": ("key_discarded", "key_retired"),
 }
 # The same in a netlog.
-OF_NETLOG = {
+OF_NETLOG: dict[str, tuple[str, ...]] = {
     "sent": ("QUIC_SESSION_PACKET_SENT",),
     "ack": ("QUIC_SESSION_ACK_FRAME_RECEIVED",),
     "lost": ("QUIC_SESSION_PACKET_LOST",),
@@ -107,10 +106,10 @@ class Made(unittest.TestCase):
 
     def test_a_line_without_room(self) -> None:
         ranges = [[10_000 + 2 * number] * 2 for number in range(MANY)]
-        end = End(sequence(header("something"), [sent(0, 10_000), received(50, ranges)]))
-        (line,) = end.text.splitlines()[2:]
+        log = sequence(header("something"), [sent(0, 10_000), received(50, ranges)])
+        (line,) = End(log).text.splitlines()[2:]
         self.assertLess(65_536 - len(line), len(',"x_place":"line 3"'))
-        end = End(sequence(header("something"), [sent(0, 10_000), received(50, ranges)]), "--places")
+        end = End(log, "--places")
         self.assertEqual((end.status, places(end, "ack")), (0, [None]))
 
 
@@ -142,7 +141,7 @@ def number_in(record: Any) -> int:
 class Real(unittest.TestCase):
     """In each log of a real stack, at the place of a line there is a record that can say it."""
 
-    def check(self, log: Path, line: Event, types: dict[int, str]) -> str:
+    def check(self, log: Path, line: Any, types: dict[int, str]) -> str:
         """A line of a trace; what it was found to be from."""
         match = PLACE.fullmatch(str(line["x_place"]))
         assert match, line
