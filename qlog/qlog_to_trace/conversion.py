@@ -80,11 +80,9 @@ class Conversion:
         self._bare = Bare()
         self._handshake = Handshake(role, survey, lines, self._flight, notes)
         self._delays = Delays()
-        # The latest values of each metric, RTTs in nanoseconds.
+        # The latest values of each metric, RTTs in nanoseconds, and the place of the last record.
         self._metrics: dict[str, int] = {}
-        # The place of the last record of metrics.
-        self._metrics_at = ""
-        self._has_sample = False
+        self._has_sample, self._metrics_at = False, ""
         self._state: str | None = None
         self._pto_count = 0
         # Bytes that the last probe timeout still allows, and packets until an acknowledgment comes.
