@@ -77,7 +77,7 @@ def outcome(listed: Listed, result: Result, case: ElementTree.Element) -> str:
     told = new or list(result.violations)
     if not told:
         return ""
-    text = "\n".join(f"{at(result, it.line)}: {it.text}" for it in told)
+    text = "\n".join(f"{at(result, it.line)}: {text_of(result, it)}" for it in told)
     message = "known: " * (not new) + ", ".join(it.title for it in told)
     name = "failure" if new else "skipped"
     element = ElementTree.SubElement(case, name, message=visible(message))
@@ -90,7 +90,13 @@ def outcome(listed: Listed, result: Result, case: ElementTree.Element) -> str:
 def allowances(result: Result) -> str:
     """What an accepted verdict rests on, in lines with the path and the line of the trace."""
     rows = [f"{at(result, it.line)}: {it.text}" if it.line else it.text for it in result.grounds]
-    return "\n".join(map(visible, (WITH_ALLOWANCES, *rows)))
+    return "\n".join(map(visible, (allowed_words(result), *rows)))
+
+
+def allowed_words(result: Result) -> str:
+    """That a trace was accepted with allowances; and of a log, that what these say has the lines of
+    its trace."""
+    return f"{WITH_ALLOWANCES}, by lines of its trace" if result.is_log else WITH_ALLOWANCES
 
 
 # Lines of traces and of logs.
@@ -163,7 +169,7 @@ def notification(level: str, key: str, text: str) -> dict[str, Any]:
 
 def notification_of(result: Result) -> dict[str, Any]:
     """A trace that was accepted with allowances, with the places of what it rests on."""
-    text = f"{WITH_ALLOWANCES}: {'; '.join(it.text for it in result.grounds)}"
+    text = f"{allowed_words(result)}: {'; '.join(it.text for it in result.grounds)}"
     places = [place(result, it.line) for it in result.grounds if it.line]
     return {**notification("note", result.key, text), "locations": places}
 

@@ -495,7 +495,12 @@ class Tables(unittest.TestCase):
             [("logs/bad.sqlog", {"startLine": 3}), ("logs/empty.qlog", None)],
         )
         self.assertLessEqual({it["ruleId"] for it in said["results"]}, rules)
-        self.assertIn("logs/bad.sqlog:3: V6", (self.folder / "junit.xml").read_text())
+        junit = (self.folder / "junit.xml").read_text()
+        self.assertRegex(junit, r"logs/bad\.sqlog:3: V6 .*\(Line 3 of the trace that this log")
+        self.assertIn("accepted with allowances, by lines of its trace\nlogs/good.qlog.gz: ", junit)
+        (note, *_) = said["invocations"][0]["toolExecutionNotifications"]
+        wanted = "good: accepted with allowances, by lines of its trace: "
+        self.assertTrue(note["message"]["text"].startswith(wanted), note)
         self.run_command("--known", "known.json", status=0)
         (self.logs / "none.qlog").write_bytes(b'{"traces":[]}')
         told = self.run_command("--known", "known.json", status=1)
