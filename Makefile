@@ -311,8 +311,8 @@ lint:
 	mypy $(python_of_bindings)
 	MYPYPATH=release mypy $(python_of_release)
 	mypy $(python_of_captures)
-	MYPYPATH=page mypy $(python_of_page)
-	MYPYPATH=page mypy $(python_of_page_tests)
+	MYPYPATH=page:qlog mypy $(python_of_page)
+	MYPYPATH=page:qlog mypy $(python_of_page_tests)
 	MYPYPATH=conformance mypy --config-file= --strict conformance/rows
 	MYPYPATH=conformance mypy --config-file= --strict conformance/departures
 	MYPYPATH=conformance:page mypy --config-file= --strict conformance/stand_in

@@ -287,6 +287,11 @@ class Releases(unittest.TestCase):
         command = [str(to / "bin/qlog-to-trace"), str(log)]
         ended = subprocess.run(command, capture_output=True, text=True, check=True)
         self.assertTrue(ended.stdout.startswith('{"event":"header"'))
+        # The pages have the converter with them.
+        program = HERE.parent / "page/stand_in.py"
+        command = [str(to / "bin/qaudit-matrix"), "--program", str(program), str(log)]
+        ended = subprocess.run(command, capture_output=True, text=True, check=True, cwd=to)
+        self.assertIn("accepted with allowances", ended.stdout)
         self.assertTrue((there / "ci/audit").exists())
         self.assertTrue((to / "share/doc/qaudit/PROVED").exists())
 

@@ -9,8 +9,8 @@ from xml.etree import ElementTree
 
 from .known import Known, known_by
 from .matrix import FAILED, OTHER, WITH_ALLOWANCES, Result
-from .rules import FAULTS, RULES
-from .texts import visible
+from .rules import MEANINGS
+from .texts import count, visible
 from .version import version
 from .violations import Violation
 
@@ -77,7 +77,7 @@ def outcome(listed: Listed, result: Result, case: ElementTree.Element) -> str:
     told = new or list(result.violations)
     if not told:
         return ""
-    text = "\n".join(f"{result.trace}:{it.line}: {it.text}" for it in told)
+    text = "\n".join(f"{at(result, it.line)}: {text_of(result, it)}" for it in told)
     message = "known: " * (not new) + ", ".join(it.title for it in told)
     name = "failure" if new else "skipped"
     element = ElementTree.SubElement(case, name, message=visible(message))
@@ -89,10 +89,41 @@ def outcome(listed: Listed, result: Result, case: ElementTree.Element) -> str:
 
 def allowances(result: Result) -> str:
     """What an accepted verdict rests on, in lines with the path and the line of the trace."""
-    rows = [
-        f"{result.trace}:{it.line}: {it.text}" if it.line else it.text for it in result.grounds
-    ]
-    return "\n".join(map(visible, (WITH_ALLOWANCES, *rows)))
+    rows = [f"{at(result, it.line)}: {it.text}" if it.line else it.text for it in result.grounds]
+    return "\n".join(map(visible, (allowed_words(result), *rows)))
+
+
+def allowed_words(result: Result) -> str:
+    """That a trace was accepted with allowances; and of a log, that what these say has the lines of
+    its trace."""
+    return f"{WITH_ALLOWANCES}, by lines of its trace" if result.is_log else WITH_ALLOWANCES
+
+
+# Lines of traces and of logs.
+
+
+def line_of(result: Result, line: int) -> int:
+    """The line of the file that was given from which a line of the trace is; 0 if it has none."""
+    if not result.is_log:
+        return line
+    place = result.places.get(line)
+    return place.line if place else 0
+
+
+def at(result: Result, line: int) -> str:
+    """A line of a trace with the path of the file; of a log, the place in the log."""
+    number = line_of(result, line)
+    if number or not result.is_log:
+        return f"{result.trace}:{number}"
+    place = result.places.get(line)
+    return f"{result.trace}: {place.text}" if place else result.trace
+
+
+def text_of(result: Result, violation: Violation) -> str:
+    """A violation in words, with the line of the trace if the file is a log."""
+    if not result.is_log or not violation.line:
+        return violation.text
+    return f"{violation.text} (Line {count(violation.line)} of the trace that this log gives.)"
 
 
 # SARIF.
@@ -108,7 +139,7 @@ def sarif(listed: Listed) -> str:
             "shortDescription": {"text": meaning.sentence},
             "help": {"text": meaning.source},
         }
-        for rule, meaning in {**RULES, **FAULTS}.items()
+        for rule, meaning in MEANINGS.items()
     ]
     failed = [
         notification("error", result.key, result.fault)
@@ -138,15 +169,20 @@ def notification(level: str, key: str, text: str) -> dict[str, Any]:
 
 def notification_of(result: Result) -> dict[str, Any]:
     """A trace that was accepted with allowances, with the places of what it rests on."""
-    text = f"{WITH_ALLOWANCES}: {'; '.join(it.text for it in result.grounds)}"
+    text = f"{allowed_words(result)}: {'; '.join(it.text for it in result.grounds)}"
     places = [place(result, it.line) for it in result.grounds if it.line]
     return {**notification("note", result.key, text), "locations": places}
 
 
 def place(result: Result, line: int) -> dict[str, Any]:
-    """A line of a trace."""
-    artifact, region = {"uri": uri(result.trace)}, {"startLine": line}
-    return {"physicalLocation": {"artifactLocation": artifact, "region": region}}
+    """A line of a trace; of a log, the place in it."""
+    found: dict[str, Any] = {"artifactLocation": {"uri": uri(result.trace)}}
+    number, origin = line_of(result, line), result.places.get(line)
+    if number:
+        found["region"] = {"startLine": number}
+    elif result.is_log and origin:
+        found["region"] = {"byteOffset": origin.first}
+    return {"physicalLocation": found}
 
 
 def sarif_of(listed: Listed, result: Result, violation: Violation) -> dict[str, Any]:
@@ -155,7 +191,7 @@ def sarif_of(listed: Listed, result: Result, violation: Violation) -> dict[str, 
     said: dict[str, Any] = {
         "ruleId": violation.rule,
         "level": "note" if is_known else "error",
-        "message": {"text": visible(violation.text)},
+        "message": {"text": visible(text_of(result, violation))},
         "locations": [place(result, violation.line)],
         "occurrenceCount": violation.count,
         "partialFingerprints": {f"{NAME}/v1": "/".join(listed.as_known(result, violation))},
@@ -185,7 +221,8 @@ def annotations(listed: Listed) -> str:
         for it in result.violations:
             level = "notice" if listed.is_known(result, it) else "error"
             title = f"{NAME} {it.title}"
-            lines.append(annotation(level, result.trace, it.line, title, it.text))
+            number, text = line_of(result, it.line), text_of(result, it)
+            lines.append(annotation(level, result.trace, number, title, text))
     return "".join(f"{line}\n" for line in lines)
 
 

@@ -9,6 +9,7 @@ from typing import IO, NoReturn
 
 from .failure import Failure, Status
 from .files import STANDARD_INPUT, STDIN, write
+from .logs import CONVERTER, options_of
 from .page import Wanted, page_of
 from .pair import page_of_two
 from .streams import ended
@@ -16,14 +17,15 @@ from .texts import visible
 from .version import version
 
 DESCRIPTION = """\
-Makes a page of a trace: one HTML file with the verdict of qaudit and diagrams of the run. It opens
-in any browser, without a server or a network. Two traces come onto one time axis: the client and
-the server of a connection, or two runs of one stack."""
+Makes a page of a trace or of a log: one HTML file with the verdict of qaudit and diagrams of the
+run. It opens in any browser, without a server or a network. Two of them come onto one time axis:
+the client and the server of a connection, or two runs of one stack. A qlog, or a netlog of
+Chromium, is converted as qlog-to-trace does it."""
 # So many traces a page has at most.
 MOST_TRACES = 2
 ENDING = """\
-The exit status is 0 if the page is written, 2 if the trace is more than a page takes, 3 if a file,
-a program or dygraphs is missing or failed, and 64 for wrong arguments."""
+The exit status is 0 if the page is written, 2 if the trace is more than a page takes or a log gives
+no trace, 3 if a file, a program or dygraphs is missing or failed, and 64 for wrong arguments."""
 
 
 class Parser(argparse.ArgumentParser):
@@ -51,6 +53,11 @@ def line(text: str) -> int:
 
 def add_shared(parser: argparse.ArgumentParser) -> None:
     """The options that both commands have."""
+    text = f"options of {CONVERTER} for each log, as in --convert='--connection 2'"
+    default = options_of()
+    parser.add_argument(
+        "--convert", type=options_of, default=default, metavar="OPTIONS", help=text
+    )
     text = "path to dygraphs 2.2 (default: the one from Debian's libjs-dygraphs)"
     parser.add_argument("--dygraphs", type=Path, metavar="FILE", help=text)
     text = "path to qaudit-why (default: the one on the path, or next to this command)"
@@ -73,10 +80,10 @@ def arguments() -> argparse.Namespace:
     parser.add_argument("--output", type=Path, metavar="FILE", help=text)
     add_shared(parser)
     text = (
-        "the trace, which gzip, xz or zstd may have compressed (default: standard input), or two:"
-        " both ends of a connection, or two runs"
+        "the trace or the log, which gzip, xz or zstd may have compressed (default: standard"
+        " input), or two: both ends of a connection, or two runs"
     )
-    parser.add_argument("traces", type=Path, metavar="TRACE", nargs="*", help=text)
+    parser.add_argument("traces", type=Path, metavar="TRACE|LOG", nargs="*", help=text)
     given = parser.parse_args()
     if len(given.traces) > MOST_TRACES:
         parser.error(f"a page has one trace or {MOST_TRACES}, and not {len(given.traces)}")
@@ -86,7 +93,15 @@ def arguments() -> argparse.Namespace:
 def text_of(given: argparse.Namespace) -> str:
     """The page of one trace, or of two."""
     trace, *more = given.traces or [None]
-    wanted = Wanted(trace, given.program, given.dygraphs, given.title, given.first, given.last)
+    wanted = Wanted(
+        trace,
+        given.program,
+        given.dygraphs,
+        given.title,
+        given.first,
+        given.last,
+        convert=given.convert,
+    )
     return page_of_two(wanted, (trace, more[0])) if more else page_of(wanted).text
 
 

@@ -26,9 +26,14 @@ def notes_of(lines: list[bytes], verdict: Verdict) -> list[str]:
     header = object_of(next((line for line in lines if line.strip()), b""))
     notes = header.get("x_note")
     told = [note for note in notes if isinstance(note, str)] if isinstance(notes, list) else []
-    told = [f"The converter says of the log: {note}" for note in told]
+    told = list(map(said_of_log, told))
     early = early_report(lines, verdict) if "x_dialect" in header else None
     return [*told, early] if early else told
+
+
+def said_of_log(note: str) -> str:
+    """What the converter says of a log, as it is shown."""
+    return f"The converter says of the log: {note}"
 
 
 def early_report(lines: list[bytes], verdict: Verdict) -> str | None:

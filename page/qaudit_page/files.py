@@ -1,7 +1,9 @@
 """Files that are read whole, and written whole or not at all."""
 
+import errno
 import os
 import tempfile
+from collections.abc import Iterator
 from pathlib import Path
 from typing import IO
 
@@ -13,6 +15,7 @@ MAX_INPUT = 2**30
 # Of what a page shows, whose lines are all in memory.
 MAX_SHOWN = 2**28
 MAX_LINES = 2_000_000
+COPIED_AT_ONCE = 2**20
 STANDARD_INPUT = "standard input"
 STDIN = 0
 
@@ -44,16 +47,66 @@ def opened(path: Path | None) -> IO[bytes]:
         raise Failure(f"cannot open {as_text(path)}: {reason_of(fault)}") from fault
 
 
+def opened_again(path: Path | None) -> IO[bytes]:
+    """A file that can be read again and again, from its beginning: a copy of a pipe."""
+    file = opened(path)
+    try:
+        if file.seekable() and file.tell() == 0:
+            return file
+        with file:
+            return copy_of(file, as_text(path))
+    except OSError as fault:
+        raise Failure(f"cannot read {as_text(path)}: {reason_of(fault)}") from fault
+
+
+def copy_of(file: IO[bytes], name: str) -> IO[bytes]:
+    """A copy of what a pipe has."""
+    copy, left = tempfile.TemporaryFile(), MAX_INPUT
+    try:
+        for piece in pieces(file):
+            left -= len(piece)
+            if left < 0:
+                text = f"{name} has more than {MAX_INPUT:,} bytes, too many for a pipe"
+                raise Failure(text, Status.UNSHOWN)
+            copy.write(piece)
+        copy.seek(0)
+    except BaseException:
+        copy.close()
+        raise
+    return copy
+
+
+def pieces(file: IO[bytes]) -> Iterator[bytes]:
+    """What a pipe has, some at a time."""
+    while piece := file.read(COPIED_AT_ONCE):
+        yield piece
+        if len(piece) < COPIED_AT_ONCE and file.isatty():
+            # A person says only once that there is no more.
+            return
+    if piece is None:
+        # A pipe that would have a reader wait has not ended.
+        raise OSError(errno.EAGAIN, os.strerror(errno.EAGAIN))
+
+
 def read(path: Path | None, *, is_shown: bool = False) -> bytes:
-    """The bytes of a file, or of standard input, decompressed if they are compressed. A page shows
-    fewer than can be audited."""
-    name, most = as_text(path), MAX_SHOWN if is_shown else MAX_INPUT
-    with opened(path) as file:
-        try:
-            data = file.read(most + 1)
-        except OSError as fault:
-            raise Failure(f"cannot read {name}: {reason_of(fault)}") from fault
-    data = unpacked(data, most + 1, name)
+    """The bytes of a file, or of standard input, decompressed if they are compressed."""
+    with opened_again(path) as file:
+        return contents(file, as_text(path), is_shown=is_shown)
+
+
+def beginning(file: IO[bytes], name: str, most: int) -> bytes:
+    """The first bytes of an open file, decompressed if they are compressed."""
+    try:
+        return unpacked(file, most, name)
+    except OSError as fault:
+        raise Failure(f"cannot read {name}: {reason_of(fault)}") from fault
+
+
+def contents(file: IO[bytes], name: str, *, is_shown: bool = False) -> bytes:
+    """The bytes of an open file, decompressed if they are compressed. A page shows fewer than can
+    be audited."""
+    most = MAX_SHOWN if is_shown else MAX_INPUT
+    data = beginning(file, name, most + 1)
     if len(data) > most:
         text = f"{name} has more than {most:,} bytes: cut it into parts"
         raise Failure(text, Status.UNSHOWN)

@@ -55,10 +55,7 @@ class Compared:
 
     def lines(self) -> list[str]:
         """What there is to say, a line for each."""
-        new = [
-            f"{it.key}: new violation {it.violation.title}, line {it.violation.line}"
-            for it in self.new
-        ]
+        new = [f"{it.key}: new violation {it.violation.where}" for it in self.new]
         gone = [f"{it.text} is known, and not seen any more" for it in self.gone]
         absent = [f"{it.text} is known, and there is no trace of it" for it in self.absent]
         return new + gone + absent

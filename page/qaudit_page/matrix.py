@@ -1,42 +1,43 @@
 """A table of many traces: a row for each case, a column for each stack, and what is new."""
 
+import argparse
 import json
 import os
 import re
 from collections import Counter
-from collections.abc import Iterable, Iterator
-from dataclasses import dataclass, replace
+from dataclasses import dataclass, field, replace
 from pathlib import Path
 from typing import Any
 from urllib.parse import quote
 
 from .banner import AMBER, MARKS
-from .compressed import ENDINGS
 from .conversion import FIRST_LINES, notes_of, object_of
 from .failure import Failure
-from .files import as_text, name_of, read, write
+from .files import as_text, read, write
 from .grounds import Basis, Ground, basis_of
 from .library import resource
+from .logs import Asked, NoTraceError, Taken, options_of, taken
 from .page import Wanted, audited, page_of
+from .places import Place, places_of
 from .program import Verdict, find, verdict_of, whole_verdict_of
 from .template import filled, policy
 from .texts import count, html, plural
 from .timers import are_short
-from .violations import Violation, violations_of
+from .violations import Violation, not_converted, violations_of
 
 OTHER = "other"
 FAILED = "failed"
 ACCEPTED = "accepted"
+UNREADABLE = "unreadable"
 WITH_ALLOWANCES = "accepted with allowances"
 NOTE_OF_ALLOWANCES = (
     f"<p>{WITH_ALLOWANCES.capitalize()}: the verdict rests on what the cell lists, such as rules"
     " that the header of the trace relaxes, or lines that were guessed. The page of a trace has the"
     " amounts and the lines.</p>"
 )
-KINDS = (ACCEPTED, WITH_ALLOWANCES, "refused", "unreadable", FAILED)
+KINDS = (ACCEPTED, WITH_ALLOWANCES, "refused", UNREADABLE, FAILED)
 # The classes of verdicts in the style, if they are others than their words.
 CLASSES = {WITH_ALLOWANCES: AMBER}
-ENDING = ".trace"
 # The form of the file of verdicts that later ones are compared with.
 VERSION = 1
 RECORDED = (
@@ -50,6 +51,9 @@ RECORDED = (
     "is_doubtful",
     "with_allowances",
     "rests_on",
+    "place",
+    "log_lacks",
+    "log_notes",
 )
 
 
@@ -74,6 +78,18 @@ class Result:
     # What an accepted verdict rests on, and whether that is more than RFC 9002 leaves to a sender.
     grounds: tuple[Ground, ...] = ()
     with_allowances: bool = False
+    # Whether the file is a log, what of it is not in its trace, what else the converter says, and
+    # where in it the lines are from that are named here.
+    is_log: bool = False
+    log_lacks: tuple[str, ...] = ()
+    log_notes: tuple[str, ...] = ()
+    places: dict[int, Place] = field(default_factory=dict)
+
+    @property
+    def place(self) -> str:
+        """Where in the log the line of the verdict is from, in words; empty if nothing says it."""
+        place = self.places.get(self.line)
+        return place.text if place else ""
 
     @property
     def rests_on(self) -> list[str]:
@@ -102,6 +118,8 @@ class Job:
     dygraphs: Path | None = None
     # Whether every violation is wanted, and not only the first.
     is_whole: bool = False
+    # How a log is converted.
+    convert: argparse.Namespace = field(default_factory=options_of)
 
 
 def judged(job: Job) -> Result:
@@ -109,10 +127,14 @@ def judged(job: Job) -> Result:
     try:
         found = looked_at(job) if job.page is None else shown_on(job, job.page)
         violations = violations_of(found.verdict) if job.is_whole else ()
+    except NoTraceError as failure:
+        return unconverted(job, failure)
     except Failure as failure:
         return unshown(job, failure)
     verdict, basis = found.verdict, found.basis
     is_accepted = verdict.kind == ACCEPTED
+    grounds = basis.grounds if is_accepted else ()
+    lines = [verdict.line, *(it.line for it in violations), *(it.line for it in grounds)]
     return Result(
         job.key,
         verdict.kind,
@@ -123,8 +145,12 @@ def judged(job: Job) -> Result:
         is_doubtful=verdict.kind == "refused" and bool(found.notes),
         trace=as_text(job.trace),
         violations=violations,
-        grounds=basis.grounds if is_accepted else (),
+        grounds=grounds,
         with_allowances=is_accepted and basis.is_amber,
+        is_log=found.taken.is_log,
+        log_lacks=found.taken.lacks,
+        log_notes=found.taken.told,
+        places=places_of(found.taken.data, lines),
     )
 
 
@@ -135,11 +161,14 @@ class Found:
     verdict: Verdict
     basis: Basis
     notes: list[str]
+    # What was audited.
+    taken: Taken
 
 
 def looked_at(job: Job) -> Found:
     """What a trace comes to of which no page is wanted."""
-    program, data = find(job.program), read(job.trace)
+    program, given = find(job.program), taken(job.trace, Asked(job.convert))
+    data = given.data
     verdict = (whole_verdict_of if job.is_whole else verdict_of)(program, data)
     lines = data.split(b"\n", FIRST_LINES)
     at = next((place for place, line in enumerate(lines, 1) if line.strip()), 0)
@@ -149,15 +178,18 @@ def looked_at(job: Job) -> Found:
         # The rows cost more than the verdict, and few verdicts hang on them.
         return are_short(audited(program, data, readers=0)[1], most)
 
-    return Found(verdict, basis_of(verdict, header, at, short), notes_of(lines, verdict))
+    return Found(verdict, basis_of(verdict, header, at, short), notes_of(lines, verdict), given)
 
 
 def shown_on(job: Job, page: Path) -> Found:
     """What a trace comes to whose page is written."""
     # Other traces have the other processors.
-    made = page_of(Wanted(job.trace, job.program, job.dygraphs, job.key, readers=0))
+    wanted = Wanted(
+        job.trace, job.program, job.dygraphs, job.key, readers=0, convert=job.convert
+    )
+    made = page_of(wanted)
     write(page, made.text)
-    return Found(made.verdict, made.basis, made.notes)
+    return Found(made.verdict, made.basis, made.notes, made.taken)
 
 
 def unshown(job: Job, failure: Failure) -> Result:
@@ -168,24 +200,22 @@ def unshown(job: Job, failure: Failure) -> Result:
     return replace(found, fault=found.fault or f"no page: {failure}")
 
 
-# Which traces, and where each stands in the table.
+def unconverted(job: Job, failure: NoTraceError) -> Result:
+    """What became of a log that gives no trace, as the converter says it."""
+    violation = not_converted(failure.reason)
+    return Result(
+        job.key,
+        UNREADABLE,
+        rule=violation.rule,
+        name=violation.name,
+        fault=failure.reason,
+        trace=as_text(job.trace),
+        violations=(violation,) if job.is_whole else (),
+        is_log=True,
+    )
 
 
-def traces_of(given: Iterable[Path]) -> Iterator[tuple[Path, str]]:
-    """The traces that are named and those in directories, each with its key."""
-    for path in given:
-        if not os.path.isdir(path):
-            yield path, key_of(name_of(path))
-            continue
-        names = (f"*{ENDING}{packed}" for packed in ("", *ENDINGS))
-        for file in sorted(file for name in names for file in path.rglob(name)):
-            yield file, key_of(as_text(file.relative_to(path)))
-
-
-def key_of(name: str) -> str:
-    """The name of a trace without its ending."""
-    plain = next((name.removesuffix(it) for it in ENDINGS if name.endswith(it)), name)
-    return plain.removesuffix(ENDING)
+# Where each trace stands in the table.
 
 
 def pattern(text: str) -> re.Pattern[str]:
@@ -414,17 +444,26 @@ def cell(result: Result, beside: Path) -> str:
     if result.with_allowances:
         told += f"<small>{html(', '.join(result.rests_on))}</small>"
     if result.rule:
-        told += f"<small>{html(result.rule)} {html(result.name)}, line {count(result.line)}</small>"
+        told += f"<small>{html(result.rule)} {html(result.name)}{html(where(result))}</small>"
+    told += "".join(f"<small>{html(it)}</small>" for it in result.log_lacks)
     if result.is_doubtful:
         told += "<small>its log may be misread</small>"
     if result.fault:
         told += f"<small>{html(result.fault[:200])}</small>"
-    about = f'class="{kind}" title="{html(result.key)}"'
+    title = "&#10;".join(map(html, (result.key, *result.log_notes)))
+    about = f'class="{kind}" title="{title}"'
     if not result.page:
         return f"<span {about}>{told}</span>"
     link = quote(os.path.relpath(os.fsencode(result.page), os.fsencode(beside)))
     at = f"#line={result.line}" if result.line else ""
     return f'<a {about} href="{html(link)}{at}">{told}</a>'
+
+
+def where(result: Result) -> str:
+    """The line of a verdict, and where in the log that is from."""
+    if not result.line:
+        return ""
+    return f", line {count(result.line)}" + (f" ({result.place})" if result.place else "")
 
 
 def rules(results: list[Result]) -> str:

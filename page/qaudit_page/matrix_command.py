@@ -10,6 +10,7 @@ from concurrent.futures.process import BrokenProcessPool
 from pathlib import Path
 from typing import NoReturn
 
+from . import logs
 from .ci import Listed, annotations, junit, sarif
 from .command import Parser, add_shared, interrupted
 from .failure import Failure, Status
@@ -32,16 +33,18 @@ from .matrix import (
     recorded,
     table,
     told_before,
-    traces_of,
     unclear_note,
 )
 from .program import find
+from .search import Search
 from .streams import ended, workers_of
 from .texts import plural, visible
 
 DESCRIPTION = """\
-Audits many traces and writes an HTML table of their verdicts to standard output. In a directory it
-finds each file, at any depth, that ends in .trace, .trace.gz, .trace.xz or .trace.zst."""
+Audits many traces and logs, and writes an HTML table of their verdicts to standard output. In a
+directory it finds each file, at any depth, that ends in .trace, .qlog, .sqlog or .netlog, and with
+.gz, .xz or .zst after that. A log beside its own trace (x.sqlog and x.trace) is left out: the trace
+counts. Logs are converted as qlog-to-trace does it."""
 ENDING = """\
 The exit status is 0 if all are accepted, 1 if one is refused, 2 if one cannot be read, 3 if a file
 or a program is missing or failed, and 64 if the arguments are wrong. With --against it is 0 if
@@ -66,7 +69,10 @@ def a_pattern(text: str) -> re.Pattern[str]:
 def arguments() -> argparse.Namespace:
     """What the command is told."""
     parser = Parser(prog="qaudit-matrix", description=DESCRIPTION, epilog=ENDING)
-    text = "how traces are named without .trace, such as CLIENT_SERVER_CASE: CASE makes the rows"
+    text = (
+        "how traces are named without .trace or .sqlog, such as CLIENT_SERVER_CASE: CASE makes the"
+        " rows"
+    )
     parser.add_argument("--pattern", type=a_pattern, metavar="PATTERN", help=text)
     text = "a directory for a page of each trace, with links from the table"
     parser.add_argument("--pages", type=Path, metavar="DIR", help=text)
@@ -91,8 +97,8 @@ def arguments() -> argparse.Namespace:
     text = f"how many traces at a time, at most {MOST_A_CORE} per core (default: one per core)"
     parser.add_argument("--jobs", type=int, default=cores(), metavar="N", help=text)
     add_shared(parser)
-    text = "traces, or directories of traces"
-    parser.add_argument("traces", type=Path, metavar="TRACE|DIRECTORY", nargs="+", help=text)
+    text = "traces or logs, or directories of them"
+    parser.add_argument("traces", type=Path, metavar="TRACE|LOG|DIRECTORY", nargs="+", help=text)
     given = parser.parse_args()
     if given.write_known and not given.known:
         parser.error("--write-known needs --known FILE")
@@ -116,12 +122,12 @@ def is_whole(given: argparse.Namespace) -> bool:
     return bool(given.known or given.junit or given.sarif or given.annotate)
 
 
-def jobs_of(given: argparse.Namespace) -> list[Job]:
+def jobs_of(given: argparse.Namespace, search: Search) -> list[Job]:
     """A job for each trace; no two have one key or one page."""
     keys: Counter[str] = Counter()
     pages: Counter[str] = Counter()
     jobs = []
-    for trace, name in traces_of(given.traces):
+    for trace, name in search.found:
         keys[name] += 1
         key = name if keys[name] == 1 else f"{name} ({keys[name]})"
         page = None
@@ -130,7 +136,8 @@ def jobs_of(given: argparse.Namespace) -> list[Job]:
             pages[plain] += 1
             again = "" if pages[plain] == 1 else f"-{pages[plain]}"
             page = given.pages / f"{plain}{again}.html"
-        jobs.append(Job(trace, key, page, given.program, given.dygraphs, is_whole(given)))
+        job = Job(trace, key, page, given.program, given.dygraphs, is_whole(given), given.convert)
+        jobs.append(job)
     return jobs
 
 
@@ -164,9 +171,13 @@ def results_of(given: argparse.Namespace) -> list[Result]:
         except OSError as fault:
             text = f"cannot make {as_text(given.pages)}: {reason_of(fault)}"
             raise Failure(text) from fault
-    jobs = jobs_of(given)
+    search = Search(given.traces)
+    jobs = jobs_of(given, search)
     if not jobs:
-        raise Failure("there is no trace: no file in the directories ends in .trace")
+        endings = ", ".join(logs.ENDINGS)
+        raise Failure(f"there is no trace: no file in the directories ends in .trace, {endings}")
+    if search.note:
+        print(f"qaudit-matrix: {visible(search.note)}", file=sys.stderr)
     pieces = max(1, min(8, len(jobs) // 40))
     count = workers(given.jobs, len(jobs))
     try:

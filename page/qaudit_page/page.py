@@ -1,23 +1,25 @@
 """A page of a trace: one HTML file with its script, its style and its data."""
 
-import gc
+import argparse
 import json
-from collections.abc import Iterator
+import sys
 from concurrent.futures import ThreadPoolExecutor
-from contextlib import contextmanager
-from dataclasses import dataclass
+from dataclasses import dataclass, field
 from pathlib import Path
 
 from .banner import MARKS, banner, kind_of, title_of
-from .conversion import notes_of
+from .collector import without_collector
+from .conversion import notes_of, said_of_log
 from .departures import section_of
 from .facts import Facts, facts_of
 from .failure import Failure
-from .files import name_of, read
+from .files import name_of
 from .grounds import Basis, basis_of
 from .held import held_after
 from .library import dygraphs, licence, resource, script
+from .logs import Asked, Taken, options_of, taken
 from .payload import Part, packed, part_of, payload, shown, text_of
+from .places import place_of
 from .program import (
     PAST,
     STRICT,
@@ -53,11 +55,19 @@ class Wanted:
     last: int | None = None
     # How many processes read rows beside this one.
     readers: int = 2
+    # How a log is converted.
+    convert: argparse.Namespace = field(default_factory=options_of)
 
     @property
     def name(self) -> str:
         """The title of the page."""
         return self.title or name_of(self.trace)
+
+    def taken(self) -> Taken:
+        """The trace, which is made of a log if the file is one."""
+        # Processes that have others beside them leave the terminal to these.
+        terminal = sys.stderr if self.readers else None
+        return taken(self.trace, Asked(self.convert, is_shown=True, terminal=terminal))
 
 
 @dataclass(frozen=True)
@@ -69,14 +79,23 @@ class Made:
     verdict: Verdict
     basis: Basis
     notes: list[str]
+    # What the page is of.
+    taken: Taken
 
 
 def page_of(wanted: Wanted) -> Made:
-    """The page of a trace."""
-    library, program = dygraphs(wanted.dygraphs), find(wanted.program)
-    verdict, trace = audited(program, read(wanted.trace, is_shown=True), wanted.readers)
-    part = part_of(trace, verdict, wanted.first, wanted.last)
-    return written(wanted, library, trace, verdict, part)
+    """The page of a trace, or of a log."""
+    library, program, given = dygraphs(wanted.dygraphs), find(wanted.program), wanted.taken()
+    told = told_of(program, wanted, given)
+    return Made(written(told, library), told.verdict, told.basis, told.notes, given)
+
+
+def told_of(program: str, wanted: Wanted, given: Taken) -> "Told":
+    """What a page has to say of a trace, once a program has audited it."""
+    verdict, trace = audited(program, given.data, wanted.readers)
+    told = Told(wanted, trace, verdict, part_of(trace, verdict, wanted.first, wanted.last))
+    told.of_log = given.lacks + given.told
+    return told
 
 
 def basis_by(trace: Trace, verdict: Verdict) -> Basis:
@@ -108,18 +127,6 @@ def audited_as(mode: Mode, program: str, data: bytes, readers: int) -> tuple[Ver
             return verdict, trace
 
 
-@contextmanager
-def without_collector() -> Iterator[None]:
-    """Meanwhile nothing looks for cycles: there are none in what JSON says, and much of it."""
-    was_enabled = gc.isenabled()
-    gc.disable()
-    try:
-        yield
-    finally:
-        if was_enabled:
-            gc.enable()
-
-
 class Told:
     """What a page has to say of a trace, before it is made."""
 
@@ -131,6 +138,8 @@ class Told:
         self.opens = opening_of(verdict, self.basis, self.silence, trace)
         self.held = held_after(trace)
         self.notes = notes_of(trace.lines, verdict)
+        # What the converter says of the log, if the trace is not the file that was given.
+        self.of_log: tuple[str, ...] = ()
 
     @property
     def title(self) -> str:
@@ -145,8 +154,8 @@ class Told:
             "KIND": kind,
             "MARK": MARKS[kind],
             "BANNER": banner(verdict, basis, self.silence, trace.unit),
-            "FACTS": pairs(facts_of(verdict.said, trace.unit)),
-            "CONVERTED": "".join(f'<p class="note">{html(note)}</p>' for note in self.notes),
+            "FACTS": pairs([*facts_of(verdict.said, trace.unit), *origin(trace, verdict)]),
+            "CONVERTED": notes_shown(self.notes, self.of_log),
             "QUOTE": quote(trace, verdict),
             "DEPARTURES": section_of(verdict, basis, trace.unit),
             "SILENCES": silences_of(self.silences, trace, self.held),
@@ -163,15 +172,14 @@ class Told:
             return data, lines.result()
 
 
-def written(wanted: Wanted, library: str, trace: Trace, verdict: Verdict, part: Part) -> Made:
+def written(told: Told, library: str) -> str:
     """The whole page."""
-    told = Told(wanted, trace, verdict, part)
     data, text = told.packed({"opens": told.opens})
     style, own, loader = resource("page.css"), script(), resource("script/load.js")
-    page = filled(
+    return filled(
         template("page.html"),
         POLICY=policy([loader, library, own], [style]),
-        TITLE=html(wanted.name),
+        TITLE=html(told.wanted.name),
         VERDICT_TEXT=html(told.title),
         STYLE=style,
         LICENCE=html_of_lines(licence()),
@@ -182,7 +190,6 @@ def written(wanted: Wanted, library: str, trace: Trace, verdict: Verdict, part: 
         LOADER=loader,
         **told.texts(),
     )
-    return Made(page, verdict, told.basis, told.notes)
 
 
 def opening_of(verdict: Verdict, basis: Basis, silence: Silence | None, trace: Trace) -> int:
@@ -206,6 +213,28 @@ def opening_of(verdict: Verdict, basis: Basis, silence: Silence | None, trace: T
 def html_of_lines(text: str) -> str:
     """A text of several lines as HTML."""
     return "\n".join(html(line) for line in text.splitlines())
+
+
+def notes_shown(notes: list[str], of_log: tuple[str, ...]) -> str:
+    """What has to be known of the conversion, and what else the converter says of a log, of which
+    the first is seen at once."""
+    shown = [f'<p class="note">{html(note)}</p>' for note in notes]
+    first, *more = [it for it in map(said_of_log, of_log) if it not in notes] or [""]
+    if more:
+        rest = "".join(f"<p>{html(note)}</p>" for note in more)
+        head = f"<summary>{html(first)} ({len(more)} more)</summary>"
+        shown.append(f'<details class="note">{head}{rest}</details>')
+    elif first:
+        shown.append(f'<p class="note">{html(first)}</p>')
+    return "".join(shown)
+
+
+def origin(trace: Trace, verdict: Verdict) -> Facts:
+    """Where in the log the line of the verdict comes from, if the trace says so."""
+    if not 0 < verdict.line <= len(trace.lines):
+        return []
+    place = place_of(trace.lines[verdict.line - 1])
+    return [("from", place.text)] if place else []
 
 
 def quote(trace: Trace, verdict: Verdict) -> str:

@@ -7,11 +7,12 @@ from typing import NamedTuple
 
 from .alignment import Alignment, End, alignment_of, are_both_ends
 from .failure import Failure
-from .files import as_text, name_of, read
+from .files import as_text, name_of
 from .library import dygraphs, licence, resource, script_of_pair
-from .page import Told, Wanted, audited, html_of_lines
+from .logs import NoTraceError
+from .page import Told, Wanted, html_of_lines, told_of
 from .parting import Parting, parting_of, section_of
-from .payload import packed, part_of
+from .payload import packed
 from .program import find
 from .template import filled, policy, template
 from .texts import NANOSECONDS_IN_A_MILLISECOND, html, visible
@@ -46,17 +47,18 @@ def page_of_two(wanted: Wanted, paths: tuple[Path, Path]) -> str:
     library, program = dygraphs(wanted.dygraphs), find(wanted.program)
     names = names_of(*paths)
     first, second = (
-        told_of(program, replace(wanted, trace=path, title=name))
+        run_of(program, replace(wanted, trace=path, title=name))
         for path, name in zip(paths, names, strict=True)
     )
     return written(wanted.title or " and ".join(names), library, (first, second))
 
 
-def told_of(program: str, wanted: Wanted) -> Told:
+def run_of(program: str, wanted: Wanted) -> Told:
     """What there is to say of one of two traces."""
     try:
-        verdict, trace = audited(program, read(wanted.trace, is_shown=True), wanted.readers)
-        return Told(wanted, trace, verdict, part_of(trace, verdict, wanted.first, wanted.last))
+        return told_of(program, wanted, wanted.taken())
+    except NoTraceError:
+        raise
     except Failure as failure:
         raise Failure(f"{wanted.name}: {failure}", failure.status) from failure
 

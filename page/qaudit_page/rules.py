@@ -67,11 +67,15 @@ FAULTS = {
     "F11": Meaning("too-many-lines", "The trace has more lines than can be numbered.", FORMAT),
 }
 # fmt: on
+# In place of a rule, of a log that gives no trace.
+NOT_CONVERTED = "log"
+LOGS = {NOT_CONVERTED: Meaning("not-converted", "The log gives no trace.", "qlog-to-trace")}
+MEANINGS = {**RULES, **FAULTS, **LOGS}
 
 
 def meaning_of(rule: str) -> str:
     """The sentence of a rule or a fault with its source, as HTML; empty where it is unknown."""
-    meaning = RULES.get(rule) or FAULTS.get(rule)
+    meaning = MEANINGS.get(rule)
     if meaning is None:
         return ""
     return f'{html(meaning.sentence)} <span class="source">{html(meaning.source)}</span>'

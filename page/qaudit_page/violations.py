@@ -5,7 +5,7 @@ from dataclasses import dataclass
 from .departures import departures_of
 from .facts import facts_of
 from .program import Object, Verdict
-from .rules import FAULTS, RULES
+from .rules import MEANINGS, NOT_CONVERTED
 from .texts import count
 
 
@@ -17,7 +17,7 @@ class Violation:
     name: str
     # The value of a report (V16) or the key of a line (F3 to F5) that it is about.
     field: str
-    # The first line, and how many lines there are.
+    # The first line, 0 for none, and how many lines there are.
     line: int
     count: int
     # The largest amount or the facts, in words.
@@ -29,9 +29,14 @@ class Violation:
         return " ".join(filter(None, (self.rule, self.name, self.field)))
 
     @property
+    def where(self) -> str:
+        """The title with the first line."""
+        return f"{self.title}, line {self.line}" if self.line else self.title
+
+    @property
     def text(self) -> str:
         """What it is, how often and by how much."""
-        meaning = RULES.get(self.rule) or FAULTS.get(self.rule)
+        meaning = MEANINGS.get(self.rule)
         told = self.title if meaning is None else f"{self.title}: {meaning.sentence}"
         if meaning is not None:
             told += f" ({meaning.source})"
@@ -57,6 +62,11 @@ def violations_of(verdict: Verdict) -> tuple[Violation, ...]:
     if end.kind != "accepted":
         found.append(last_of(end))
     return tuple(sorted(found, key=lambda it: it.line))
+
+
+def not_converted(reason: str) -> Violation:
+    """That a log gives no trace, and why, as the converter says it."""
+    return Violation(NOT_CONVERTED, MEANINGS[NOT_CONVERTED].name, "", 0, 1, reason)
 
 
 def last_of(end: Verdict) -> Violation:

@@ -90,7 +90,7 @@ def made(data: bytes, report: str | None = None, *, is_strict: bool = False, **w
     fields: dict[str, Any] = {"trace": Path("made.trace"), **wanted}
     asked = Wanted(**fields)
     part = part_of(trace, verdict, asked.first, asked.last)
-    return written(asked, LIBRARY, trace, verdict, part).text
+    return written(Told(asked, trace, verdict, part), LIBRARY)
 
 
 def made_of_two(first: bytes, second: bytes, *names: str) -> str:

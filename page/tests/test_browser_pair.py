@@ -5,7 +5,11 @@ from typing import Any
 
 from tests.made import HEADER, joined, made_of_two, sent
 from tests.test_browser import EVIL, SMALL, Browsing
+from tests.test_logs import REAL
 from tests.test_pair import CLIENT, heard, initial
+
+from qaudit_page.logs import Asked, options_of, taken
+from qaudit_page.places import place_of
 
 # In the clock of the client, packet n of the client is sent at 100 n ms; the clock of the server is
 # 1,000 ms ahead.
@@ -209,6 +213,22 @@ class Parting(Browsing):
         self.assertNotIn("\u202e", self.browser.run("return document.body.innerText"))
         count = "return document.querySelectorAll('img, svg').length"
         self.assertEqual(self.browser.run(count), 0)
+
+
+class Logs(Browsing):
+    """The logs of both ends of an upload."""
+
+    def test_where_in_the_log_a_line_is_from(self) -> None:
+        client, server = (
+            taken(REAL / f"ngtcp2-upload-{side}.qlog", Asked(options_of())).data
+            for side in ("client", "server")
+        )
+        self.show(made_of_two(client, server), "#second=20")
+        for run, data in zip(RUNS, (client, server), strict=True):
+            line = self.browser.run(f"return qauditPage[{run!r}].selected()")
+            place = place_of(data.split(b"\n")[line - 1])
+            assert place, line
+            self.assertEqual(self.text(f"#{run}-panel .origin"), place.text)
 
 
 if __name__ == "__main__":

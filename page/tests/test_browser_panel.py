@@ -7,6 +7,20 @@ from tests.test_held import CONFIRMED
 REPORT = '{"event":"metrics","time":5,"bytes_in_flight":2500,"smoothed_rtt":333000}'
 GREAT = '{"event":"metrics","time":5,"bytes_in_flight":9223372036854775807}'
 HOSTILE = '{"event":"metrics","time":7,"x":"<img src=x onerror=alert(1)>\u202e"}'
+# Places in the log as the converter writes them, and one as it does not.
+PLACED = (
+    HEADER,
+    sent(0, more=',"x_place":"line 1812"'),
+    '{"event":"metrics","time":0,"x_place":"guessed at byte 10412"}',
+    sent(1, more=',"x_place":"line 5 to line 7"'),
+    sent(2, more=',"x_place":"line 5<img src=x onerror=alert(1)>"'),
+    sent(3, more=',"x_place":["line 5"]'),
+)
+PLACES = (
+    "line 1,812 of the log",
+    "no record; guessed at byte 10,412 of the log",
+    "lines 5 to 7 of the log",
+)
 TRACE = (HEADER, CONFIRMED, sent(0), sent(1, 3), REPORT, sent(2, 6), HOSTILE, acked(90_000, (0, 2)))
 # Where the cursor is in each diagram, from the left of the page; nothing where it is hidden.
 CURSORS = """return [...document.querySelectorAll('.chart .cursor')].filter(it => !it.hidden)
@@ -71,6 +85,19 @@ class Panel(Browsing):
         self.assertEqual(
             self.browser.run(f"{bold}.map(it => it.dataset.name)"), ["in flight (B)", "timer (ms)"]
         )
+
+    def test_where_in_the_log_a_line_is_from(self) -> None:
+        self.show(made(joined(*PLACED)), "#line=1")
+        found = "[...document.querySelectorAll('#panel .origin')]"
+        origins = f"return {found}.map(it => it.textContent)"
+        self.assertEqual(self.browser.run(origins), [])
+        for words in PLACES:
+            self.key("ArrowRight")
+            self.assertEqual(self.browser.run(origins), [words])
+            self.assertIn(words, self.text("#said"))
+        for _ in range(2):
+            self.key("ArrowRight")
+            self.assertEqual(self.browser.run(origins), [])
 
     def test_the_json_is_there_on_demand(self) -> None:
         self.show(made(joined(*TRACE)), "#line=7")

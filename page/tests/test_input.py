@@ -87,10 +87,11 @@ class Compressed(unittest.TestCase):
 
     def test_no_more_is_unpacked_than_is_taken(self) -> None:
         zeros = bytes(MANY)
-        for data in (gzip.compress(zeros), lzma.compress(zeros)):
-            self.assertEqual(len(compressed.unpacked(data, 100, "zeros")), 100)
-        if not NO_ZSTD:
-            self.assertEqual(len(compressed.unpacked(zstd(zeros), 100, "zeros")), 100)
+        forms = [gzip.compress(zeros), lzma.compress(zeros)]
+        forms += [] if NO_ZSTD else [zstd(zeros)]
+        for data in forms:
+            with self.file("zeros", data).open("rb") as file:
+                self.assertEqual(len(compressed.unpacked(file, 100, "zeros")), 100)
 
     def test_what_takes_too_much_memory(self) -> None:
         """A dictionary of xz may be larger than memory."""
@@ -202,6 +203,38 @@ class Sizes(unittest.TestCase):
         self.assertEqual(self.failure(), wanted)
 
 
+class Pipes(unittest.TestCase):
+    """What is read from a pipe, which can be read only once."""
+
+    def setUp(self) -> None:
+        reading, self.writing = os.pipe()
+        self.file = os.fdopen(reading, "rb")
+        self.addCleanup(self.file.close)
+
+    def test_it_is_copied(self) -> None:
+        os.write(self.writing, TRACE)
+        os.close(self.writing)
+        with files.copy_of(self.file, "a pipe") as copy:
+            self.assertEqual(copy.read(), TRACE)
+            self.assertEqual(copy.seek(0), 0)
+
+    def test_one_with_more_than_is_taken(self) -> None:
+        self.addCleanup(setattr, files, "MAX_INPUT", files.MAX_INPUT)
+        files.MAX_INPUT = len(TRACE) - 1
+        os.write(self.writing, TRACE)
+        os.close(self.writing)
+        with self.assertRaises(Failure) as raised:
+            files.copy_of(self.file, "a pipe")
+        self.assertEqual(raised.exception.status, Status.UNSHOWN)
+        self.assertRegex(str(raised.exception), "^a pipe has more than [0-9,]+ bytes, too many for")
+
+    def test_one_that_would_have_a_reader_wait(self) -> None:
+        os.set_blocking(self.file.fileno(), False)
+        with self.assertRaises(BlockingIOError):
+            files.copy_of(self.file, "a pipe")
+        os.close(self.writing)
+
+
 @unittest.skipIf(NO_LIBRARY, NO_LIBRARY)
 class Streams(unittest.TestCase):
     """Standard streams that are closed or full, or that nobody reads."""
@@ -269,6 +302,7 @@ class Versions(unittest.TestCase):
         """As release/pack makes it."""
         folder = Path(self.enterContext(tempfile.TemporaryDirectory()))
         shutil.copytree(PAGE / "qaudit_page", folder / "modules" / "qaudit_page")
+        shutil.copytree(PROJECT / "qlog/qlog_to_trace", folder / "modules" / "qlog_to_trace")
         (folder / "modules" / "qaudit_page" / "VERSION").write_text("1.2.3\n")
         target = folder / "qaudit-page"
         zipapp.create_archive(folder / "modules", target, main="qaudit_page.command:program")

@@ -420,11 +420,13 @@ class Tables(unittest.TestCase):
     def test_compressed_traces(self) -> None:
         (self.traces / "one.trace.gz").write_bytes(gzip.compress(BAD))
         (self.traces / "two.trace.xz").write_bytes(lzma.compress(GOOD))
+        # What a file is, its bytes say, and not its name.
         (self.traces / "three.qlog.gz").write_bytes(gzip.compress(GOOD))
+        (self.traces / "four.txt.gz").write_bytes(gzip.compress(GOOD))
         self.assertEqual(self.run_command("--json", self.json).returncode, 1)
         listed = json.loads(self.json.read_text())["traces"]
         found = {it["key"]: it["kind"] for it in listed if "_" not in it["key"]}
-        self.assertEqual(found, {"one": "refused", "two": "accepted"})
+        self.assertEqual(found, {"one": "refused", "two": "accepted", "three": "accepted"})
 
     def test_nothing_and_wrong_arguments(self) -> None:
         empty = self.folder / "empty"

@@ -22,7 +22,7 @@ from .errors import Unusable
 from .events import Event, events_of
 from .forms import Form
 from .header import DEFAULT_EIGHTHS, NO_LIMIT, Choices, options_of, write_header
-from .lines import Line, Lines
+from .lines import PLACE, Line, Lines
 from .looking import order_of
 from .notes import Notes
 from .streams import OutputError
@@ -123,6 +123,8 @@ def arguments() -> argparse.ArgumentParser:
     names = [dialect.name for dialect in DIALECTS]
     add("--dialect", choices=names, help="the kind of log, if the log does not say it")
     add("--notes", action="store_true", help="count the guesses on standard error")
+    text = "say at the key x_place of each line where in the log its record begins"
+    add("--places", action="store_true", help=text)
     group = parser.add_argument_group(
         "keys of the header", "They replace what is known of the kind of log."
     )
@@ -221,19 +223,20 @@ def wrong_in(args: argparse.Namespace) -> str | None:
 class Progress:
     """One line on a terminal that says how far a large log was read."""
 
-    def __init__(self, form: Form, size: int, stream: TextIO) -> None:
-        self._form, self._size, self._stream = form, size, stream
-        self._is_shown = size >= LARGE and stream.isatty()
+    def __init__(self, form: Form, size: int, terminal: TextIO | None) -> None:
+        self._form, self._size = form, size
+        is_shown = terminal is not None and size >= LARGE and terminal.isatty()
+        self._stream = terminal if is_shown else None
 
     def over(self, events: Iterator[Event], what: str) -> Iterator[Event]:
         """The same events, with progress on the way."""
         for number, event in enumerate(events):
-            if self._is_shown and number % EVENTS_OF_PROGRESS == 0:
+            if self._stream and number % EVENTS_OF_PROGRESS == 0:
                 part = 100 * self._form.position() // self._size
                 self._stream.write(f"\r{what} {part:3} %")
                 self._stream.flush()
             yield event
-        if self._is_shown:
+        if self._stream:
             self._stream.write("\r" + " " * (len(what) + 6) + "\r")
 
 
@@ -268,9 +271,15 @@ def choose(
 
 
 class Converter:
-    """Converts one log."""
+    """Converts one log. How far it is, is told on a terminal if one is named."""
 
-    def __init__(self, file: BinaryIO, args: argparse.Namespace, output: TextIO) -> None:
+    def __init__(
+        self,
+        file: BinaryIO,
+        args: argparse.Namespace,
+        output: TextIO,
+        terminal: TextIO | None = None,
+    ) -> None:
         self._form = form_of(file)
         self._args = args
         self._output = output
@@ -286,29 +295,30 @@ class Converter:
         # Whether events name connections, once the log was read.
         self._has_connections = False
         file.seek(0, 2)
-        self._progress = Progress(self._form, file.tell(), sys.stderr)
-
-    @property
-    def torn_at(self) -> str | None:
-        """Where the log is torn off, if it is."""
-        return self._form.torn_at
-
-    @property
-    def break_of_record(self) -> str | None:
-        """What is wrong with the record at which it is torn off, if it is no JSON."""
-        return self._form.break_of_record
-
-    @property
-    def passed_over(self) -> list[str]:
-        """The records that are no JSON and hold nothing of recovery."""
-        return self._form.passed_over
+        self._progress = Progress(self._form, file.tell(), terminal)
 
     def _events(self, what: str) -> Iterator[Event]:
         events = events_of(self._form.events(self._index), self._header)
         return self._progress.over(events, what)
 
+    @property
+    def lacks(self) -> list[str]:
+        """What of the log is not in its trace, once it is written: records, its end, others of its
+        connections."""
+        form = self._form
+        told = [f"{it}; the record is passed over" for it in form.passed_over[:MOST_OF_RECORDS]]
+        if len(form.passed_over) > MOST_OF_RECORDS:
+            told.append(f"{len(form.passed_over)} such records are passed over")
+        if form.torn_at:
+            what = form.break_of_record or "torn off"
+            told.append(f"{what} at {form.torn_at}; the trace ends there")
+        return told + self.notes.others
+
     def _write(self, line: Line) -> None:
         text = ENCODER.encode(line)
+        if len(text) > LONGEST_LINE and PLACE in line:
+            # The place is no reason that a log gives no trace.
+            text = ENCODER.encode({key: value for key, value in line.items() if key != PLACE})
         if len(text) > LONGEST_LINE:
             raise Unusable(f"a line of {len(text)} bytes; a trace has {LONGEST_LINE} at most")
         try:
@@ -326,7 +336,8 @@ class Converter:
         survey = self._survey(dialect)
         dialect = self._looked_at(dialect, survey)
         options = options_of(dialect, survey, choices, self.notes)
-        lines = Lines(self._write, self.notes, options.get("unit", "us"))
+        unit, has_places = options.get("unit", "us"), self._args.places
+        lines = Lines(self._write, self.notes, unit, has_places=has_places)
         size = write_header(lines, self.notes, self._role, dialect, survey, options)
         eighths = options.get("time_threshold_eighths", DEFAULT_EIGHTHS)
         dialect = replace(dialect, time_threshold_eighths=eighths)
@@ -355,9 +366,9 @@ class Converter:
         self._has_connections = connections.count > 0
         if self._traces > 1:
             chosen = self._args.connection or 1
-            self.notes.warnings.append(others(self._traces, chosen, TRACES))
+            self.notes.others.append(others(self._traces, chosen, TRACES))
         if connections.count > 1:
-            self.notes.warnings.append(others(connections.count, self._chosen, CONNECTIONS))
+            self.notes.others.append(others(connections.count, self._chosen, CONNECTIONS))
         return survey
 
     def _looked_at(self, dialect: Dialect, survey: Survey) -> Dialect:
@@ -409,26 +420,13 @@ def complain(text: str) -> None:
     streams.say(f"qlog-to-trace: {visible(text)}\n")
 
 
-def tell(converter: Converter, name: str) -> None:
-    """What of a log is not in its trace, on standard error."""
-    for record in converter.passed_over[:MOST_OF_RECORDS]:
-        complain(f"{name}: {record}; the record is passed over")
-    if len(converter.passed_over) > MOST_OF_RECORDS:
-        complain(f"{name}: {len(converter.passed_over)} such records are passed over")
-    if converter.torn_at:
-        what = converter.break_of_record or "torn off"
-        complain(f"{name}: {what} at {converter.torn_at}; the trace ends there")
-    for warning in converter.notes.told():
-        complain(f"{name}: {warning}")
-
-
 def write_trace(args: argparse.Namespace, name: str) -> int:
     """Writes the trace of a log to standard output; the exit status."""
     converter = None
     try:
         with opened(args.file) as file:
             streams.put("")
-            converter = Converter(file, args, sys.stdout)
+            converter = Converter(file, args, sys.stdout, sys.stderr)
             converter.convert()
             streams.put("")
     except (Unusable, MemoryError) as error:
@@ -437,7 +435,8 @@ def write_trace(args: argparse.Namespace, name: str) -> int:
         is_fault = isinstance(error, MemoryError)
         complain(f"{name}: {'out of memory' if is_fault else error}{rest}")
         return FAILED if is_fault else BAD_INPUT
-    tell(converter, name)
+    for told in converter.lacks + converter.notes.told():
+        complain(f"{name}: {told}")
     if args.notes:
         for note in converter.notes.lines():
             streams.say(f"{note}\n")

@@ -9,7 +9,7 @@ from .events import NANOSECONDS, SPACE_OF_NAME, SPACES, UNKNOWN_METRICS, Event
 from .flight import Bare, Flight, as_ranges
 from .groups import Group, Groups, Kind
 from .handshake import Handshake
-from .lines import RTTS, Lines
+from .lines import RTTS, Lines, guessed, span
 from .notes import Guess, Limit, Notes, Omission
 from .rounding import EARLIER, PARTS_OF_RTT, Age, Delays
 from .survey import Retry, Survey
@@ -80,9 +80,9 @@ class Conversion:
         self._bare = Bare()
         self._handshake = Handshake(role, survey, lines, self._flight, notes)
         self._delays = Delays()
-        # The latest values of each metric, RTTs in nanoseconds.
+        # The latest values of each metric, RTTs in nanoseconds, and the place of the last record.
         self._metrics: dict[str, int] = {}
-        self._has_sample = False
+        self._has_sample, self._metrics_at = False, ""
         self._state: str | None = None
         self._pto_count = 0
         # Bytes that the last probe timeout still allows, and packets until an acknowledgment comes.
@@ -148,12 +148,14 @@ class Conversion:
                 self._state = str(event.data.get("new"))
             if event.name == UNKNOWN_METRICS:
                 self._metrics.clear()
+                self._metrics_at = event.place
             if event.name != "metrics_updated":
                 continue
             count = event.pto_count()
             self._pto_count = self._pto_count if count is None else count
             if set(event.data) != {"pto_count"}:
                 found = True
+                self._metrics_at = event.place
                 self._take_values(event.metrics())
         self._has_sample = self._has_sample or self._metrics.get("min_rtt", 0) > 0
         if before is not None and self._metrics.get("window", before) < before:
@@ -182,7 +184,7 @@ class Conversion:
             if self._has_sample or key not in RTTS
         }
         if known:
-            self._lines.metrics(time, known)
+            self._lines.metrics(time, self._metrics_at, known)
             self._told_window = known.get("window", self._told_window)
 
     def _tell_window(self, time: int) -> None:
@@ -194,25 +196,27 @@ class Conversion:
         if not self.is_window_reported or window is None:
             return
         if window != self._told_window:
-            self._lines.metrics(time, {"window": window})
+            self._lines.metrics(time, self._metrics_at, {"window": window})
             self._told_window = window
 
     def _write_lost(self, event: Event, lost: Iterable[Event]) -> None:
         """The Lost line of each space, at the time of an event."""
-        spaces: dict[str, list[int]] = defaultdict(list)
+        spaces: dict[str, list[Event]] = defaultdict(list)
         for it in lost:
             if it.name != "packet_lost" or not it.space:
                 continue
             if self._bare.has(it.space, it.number):
                 self._notes.omit(Omission.LOSS_NOT_IN_FLIGHT)
                 continue
-            spaces[it.space].append(it.number)
+            spaces[it.space].append(it)
             if self._flight.time_of(it.space, it.number) == self._last_loss:
                 self._notes.limits.add(Limit.SAME_TICK)
         if spaces:
             self._last_loss = event.time
-        for space, numbers in spaces.items():
-            self._lines.event("lost", event.time, space=space, ranges=as_ranges(numbers))
+        for space, events in spaces.items():
+            numbers = [it.number for it in events]
+            place = span(events[0].place, events[-1].place)
+            self._lines.event("lost", event.time, place, space=space, ranges=as_ranges(numbers))
             self._flight.take(space, numbers)
 
     # Packets that are sent.
@@ -338,6 +342,7 @@ class Conversion:
         self._lines.event(
             "sent",
             event.time,
+            event.place,
             space=space,
             number=number,
             size=size,
@@ -390,7 +395,8 @@ class Conversion:
             self._notes.omit(Omission.FLIGHT_DIFFERS)
             return
         space, numbers = found
-        self._lines.event("metrics", event.time, x_forgot=as_ranges(numbers), x_space=space)
+        place, forgot = guessed(event.place), as_ranges(numbers)
+        self._lines.event("metrics", event.time, place, x_forgot=forgot, x_space=space)
         self._flight.take(space, numbers)
         self._notes.omit(Omission.LEFT_FLIGHT, len(numbers))
 
@@ -489,6 +495,7 @@ class Conversion:
         self._lines.event(
             "ack",
             time,
+            event.place,
             space=space,
             ranges=ranges,
             delay=self._lines.in_unit(delay),
@@ -653,7 +660,8 @@ class Conversion:
     def _write_timer(
         self, event: Event, kind: str, space: str, time: int | None = None
     ) -> None:
-        self._lines.event("timer", event.time if time is None else time, kind=kind, space=space)
+        time = event.time if time is None else time
+        self._lines.event("timer", time, event.place, kind=kind, space=space)
         if kind == "pto":
             self._probe_left = DATAGRAMS_OF_PROBE * self._datagram
             self._probes_left = DATAGRAMS_OF_PROBE

@@ -221,7 +221,7 @@ class Document(Form):
                 scanner.value()
                 continue
             for _ in scanner.elements():
-                place = scanner.place() if is_asked else ""
+                place = scanner.next_place() if is_asked else ""
                 value = scanner.value(LONGEST_RECORD)
                 if is_asked:
                     yield Record(place, value)

@@ -27,6 +27,8 @@ class Handshake:
         # A client's Initial keys are gone once the Initial packet of the same datagram is logged,
         # where the log says so before its first Handshake packet.
         self._initial_is_due = False
+        # Where the log says so.
+        self._initial_due_at = ""
         self._has_sent = False
         self._untold = {"initial", "handshake"} - survey.retired
         self._pending: list[str] = []
@@ -41,7 +43,7 @@ class Handshake:
         if not self.has_keys:
             self.has_keys = True
             if self.is_client:
-                self._lines.event("keys", event.time)
+                self._lines.event("keys", event.time, event.place)
 
     def confirm(self, event: Event) -> None:
         """The handshake is confirmed."""
@@ -49,7 +51,7 @@ class Handshake:
             self.is_confirmed = True
             if "handshake" in self._untold:
                 self._notes.guess(Guess.CONFIRMED)
-            self._lines.event("confirmed", event.time)
+            self._lines.event("confirmed", event.time, event.place)
 
     def discard(self, space: str, event: Event) -> None:
         """The keys of a space are gone."""
@@ -61,7 +63,9 @@ class Handshake:
         self._flight.clear(space)
         if space in self._untold:
             self._notes.guess(Guess.DISCARD)
-        self._lines.event("discard", event.time, space=space)
+        is_due = space == "initial" and self._initial_is_due
+        place = self._initial_due_at if is_due else event.place
+        self._lines.event("discard", event.time, place, space=space)
 
     def on_keys_event(self, event: Event) -> None:
         """The log tells of keys."""
@@ -70,7 +74,7 @@ class Handshake:
             if space == "handshake":
                 self.take_keys(event)
         elif space == "initial" and self.is_client and not self._has_sent:
-            self._initial_is_due = True
+            self._initial_is_due, self._initial_due_at = True, event.place
         elif space:
             self.discard(space, event)
 

@@ -10,7 +10,7 @@ import re
 from collections import Counter
 from collections.abc import Iterator, Sequence
 from decimal import Decimal
-from typing import Any, BinaryIO
+from typing import Any, BinaryIO, NamedTuple
 
 from .errors import Torn, Unusable
 from .events import as_number
@@ -67,17 +67,35 @@ def ranges_of(values: Values) -> list[list[int]]:
     return found
 
 
+class Ack(NamedTuple):
+    """An acknowledgment: where it is in the netlog, its time in microseconds, the ranges and the
+    delay."""
+
+    place: str
+    time: int
+    ranges: list[list[int]]
+    delay: int
+
+
+class Loss(NamedTuple):
+    """A packet that was declared lost: where in the netlog, when in microseconds, its number."""
+
+    place: str
+    time: int
+    number: int
+
+
 class Session:
-    """The events of one QUIC session, as those of a qlog."""
+    """The events of one QUIC session, as records of a qlog."""
 
     def __init__(self) -> None:
         # The frames of the packet that is sent next.
         self._frames: list[str] = []
         # Of which type the packet is whose frames come.
         self._received = "initial"
-        # The acknowledgment and the losses that wait for one another, with their times.
-        self._ack: tuple[int, list[list[int]], int] | None = None
-        self._lost: list[tuple[int, int]] = []
+        # The acknowledgment and the losses that wait for one another.
+        self._ack: Ack | None = None
+        self._lost: list[Loss] = []
         # What is in flight, for a loss does not say of which space it is.
         self._in_flight: dict[str, Numbers] = {}
         # All spaces count on from one another.
@@ -86,12 +104,17 @@ class Session:
         self._is_bare = False
         # Packets of other paths, which are left out.
         self.of_paths = 0
+        # Where the event is that is looked at.
+        self._place = ""
 
-    def records(self, name: str, milliseconds: int, values: Values) -> Iterator[Values]:
+    def records(
+        self, place: str, name: str, milliseconds: int, values: Values
+    ) -> Iterator[Record]:
         """What an event gives, and what waited for it."""
-        time = milliseconds * 1_000
+        self._place, time = place, milliseconds * 1_000
         if name == "PACKET_LOST":
-            self._lost.append((number_of(values, "detection_time_us"), number_of(values, PACKET)))
+            found, number = number_of(values, "detection_time_us"), number_of(values, PACKET)
+            self._lost.append(Loss(place, found, number))
             return
         if name.startswith(BOUNDARIES):
             yield from self._settled(name == "ACK_FRAME_RECEIVED")
@@ -104,53 +127,54 @@ class Session:
         elif name == "UNAUTHENTICATED_PACKET_HEADER_RECEIVED":
             yield from self._on_header(time, values)
         elif name == "TRANSPORT_PARAMETERS_RECEIVED":
-            yield self._parameters(time, values)
+            yield Record(place, self._parameters(time, values))
         elif name == "HANDSHAKE_DONE_FRAME_RECEIVED":
-            yield self._packet_received(time, {"frame_type": "handshake_done"})
+            yield Record(place, self._packet_received(time, {"frame_type": "handshake_done"}))
         elif name in ("CONNECTION_CLOSE_FRAME_SENT", "CONNECTION_CLOSE_FRAME_RECEIVED"):
-            yield self._packet_received(time, {"frame_type": "connection_close"})
+            yield Record(place, self._packet_received(time, {"frame_type": "connection_close"}))
         elif name == "COALESCED_PACKET_SENT":
             self._frames = []
         elif name.endswith(FRAME_SENT):
             self._frames.append(name.removesuffix(FRAME_SENT).lower())
 
-    def rest(self) -> Iterator[Values]:
+    def rest(self) -> Iterator[Record]:
         """What still waits at the end."""
         yield from self._settled(False)
 
-    def _on_ack(self, time: int, values: Values) -> Iterator[Values]:
+    def _on_ack(self, time: int, values: Values) -> Iterator[Record]:
         delay = number_of(values, "delta_time_largest_observed_us")
-        self._ack = (time, ranges_of(values), delay)
+        self._ack = Ack(self._place, time, ranges_of(values), delay)
         if self._lost:
             # Losses that stand right before an acknowledgment are shown by it.
             yield from self._settled(False)
 
-    def _settled(self, is_ack: bool) -> Iterator[Values]:
+    def _settled(self, is_ack: bool) -> Iterator[Record]:
         """The acknowledgment and the losses that wait: together, if the one can show the others."""
         if self._ack is None:
             # What follows decides whose the losses are.
             if self._lost and not is_ack:
                 yield from self._losses(None)
             return
-        (time, ranges, delay), self._ack = self._ack, None
-        kind = self._received
-        is_shown = bool(self._lost) and self._lost[-1][0] - time < LATE
+        ack, self._ack = self._ack, None
+        kind, time = self._received, ack.time
+        is_shown = bool(self._lost) and self._lost[-1].time - time < LATE
         if is_shown:
-            time = self._lost[-1][0]
-        ack = {"frame_type": "ack", "ack_delay": Decimal(delay) / 1000, "acked_ranges": ranges}
-        yield self._packet_received(time, ack)
+            time = self._lost[-1].time
+        delay = Decimal(ack.delay) / 1000
+        frame = {"frame_type": "ack", "ack_delay": delay, "acked_ranges": ack.ranges}
+        yield Record(ack.place, self._packet_received(time, frame))
         held = self._in_flight.get(kind, Numbers())
-        held.take(held.within(ranges))
+        held.take(held.within(ack.ranges))
         if self._lost:
             yield from self._losses(kind if is_shown else None)
 
-    def _losses(self, kind: str | None) -> Iterator[Values]:
-        for time, number in self._lost:
+    def _losses(self, kind: str | None) -> Iterator[Record]:
+        for place, time, number in self._lost:
             found = kind or self._kind_of(number)
             held = self._in_flight.get(found, Numbers())
             held.take(held.within([[number, number]]))
             header = {"packet_type": found, PACKET: number}
-            yield event(time, "packet_lost", {"header": header})
+            yield Record(place, event(time, "packet_lost", {"header": header}))
         self._lost = []
 
     def _kind_of(self, number: int) -> str:
@@ -158,7 +182,7 @@ class Session:
         kinds = reversed(list(TYPE_OF_LEVEL.values()))
         return next((it for it in kinds if number in self._in_flight.get(it, Numbers())), "1RTT")
 
-    def _on_sent(self, values: Values) -> Iterator[Values]:
+    def _on_sent(self, values: Values) -> Iterator[Record]:
         kind = TYPE_OF_LEVEL.get(str(values.get("encryption_level")), "1RTT")
         number, size = number_of(values, PACKET), number_of(values, "size")
         is_behind_gap = self._last_number is not None and number > self._last_number + 1
@@ -172,7 +196,8 @@ class Session:
         if self._is_bare and kind == "initial" and values.get("transmission_type") == AGAIN:
             # All that it had sent goes out again at once.
             self._is_bare = False
-            yield event(time, "packet_received", {"header": {"packet_type": "retry"}})
+            retry = event(time, "packet_received", {"header": {"packet_type": "retry"}})
+            yield Record(self._place, retry)
         held = self._in_flight.setdefault(kind, Numbers())
         if number not in held:
             held.add(number)
@@ -184,14 +209,15 @@ class Session:
         # At a probe timeout the sender passes over a number.
         if values.get("transmission_type") == PROBE or is_behind_gap:
             data["trigger"] = "pto_probe"
-        yield event(time, "packet_sent", data)
+        yield Record(self._place, event(time, "packet_sent", data))
 
-    def _on_header(self, time: int, values: Values) -> Iterator[Values]:
+    def _on_header(self, time: int, values: Values) -> Iterator[Record]:
         kind = str(values.get("long_header_type"))
         is_long = values.get("header_format") == LONG_HEADER
         self._received = TYPE_OF_HEADER.get(kind, "1RTT") if is_long else "1RTT"
         if self._received == "handshake":
-            yield self._packet_received(time, {"frame_type": "crypto"})
+            crypto = self._packet_received(time, {"frame_type": "crypto"})
+            yield Record(self._place, crypto)
 
     def _packet_received(self, time: int, frame: Values) -> Values:
         header = {"packet_type": self._received}
@@ -257,17 +283,14 @@ class Netlog(Form):
     def events(self, index: int) -> Iterator[Record]:
         """The events of a session."""
         session = Session()
-        place = ""
         for place, name, source, member in self._events():
             if source != self._sessions[index] or not name.startswith(PREFIX):
                 continue
             values = member.get("params")
             values = values if isinstance(values, dict) else {}
             time = number_of(member, "time")
-            for value in session.records(name.removeprefix(PREFIX), time, values):
-                yield Record(place, value)
-        for value in session.rest():
-            yield Record(place, value)
+            yield from session.records(place, name.removeprefix(PREFIX), time, values)
+        yield from session.rest()
         self.left_out = {"packets that probe another path": session.of_paths}
 
     def _events(self) -> Iterator[tuple[str, str, object, Values]]:
@@ -292,7 +315,7 @@ class Netlog(Form):
         scanner: Scanner, names: dict[object, str]
     ) -> Iterator[tuple[str, str, object, Values]]:
         for _ in scanner.elements():
-            place = scanner.place()
+            place = scanner.next_place()
             member = scanner.value(LONGEST_RECORD)
             if not isinstance(member, dict):
                 continue

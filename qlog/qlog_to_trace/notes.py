@@ -33,6 +33,20 @@ class Guess(Enum):
     TIME_BACK = "time: it went back, and is that of the line before"
 
 
+# Guesses of a whole line, of which the log has no record.
+OF_LINES = frozenset(
+    (
+        Guess.PROBE_BY_COUNT,
+        Guess.PROBE_BY_PING,
+        Guess.PROBE_BY_ROOM,
+        Guess.PROBE_BY_TRIGGER,
+        Guess.LOSS_TIMER,
+        Guess.DISCARD,
+        Guess.CONFIRMED,
+    )
+)
+
+
 class Omission(Enum):
     """What a log says and the trace does not."""
 
@@ -85,6 +99,8 @@ class Notes:
         self.guesses: Counter[Guess] = Counter()
         self.omissions: Counter[Omission] = Counter()
         self._of_next_line: list[Guess] = []
+        # That the log has other traces or connections.
+        self.others: list[str] = []
         # What is told in any case, since part of the log is not audited.
         self.warnings: list[str] = []
         # Those of them that a reader of a refusal has to know.
@@ -106,6 +122,11 @@ class Notes:
         """Tells, also in the header of the trace, that a refusal may be due to the reading."""
         self.warnings.append(text)
         self.of_header.append(text)
+
+    @property
+    def guess_next_line(self) -> bool:
+        """Whether the log has no record of the next line."""
+        return not OF_LINES.isdisjoint(self._of_next_line)
 
     def for_next_line(self) -> dict[str, list[str]]:
         """The key by which a line tells of the guesses that stand in it."""

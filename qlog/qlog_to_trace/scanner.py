@@ -62,6 +62,11 @@ class Scanner:
         self._counted = self._at
         return f"byte {self._bytes}"
 
+    def next_place(self) -> str:
+        """Where the next value begins, for people."""
+        self.peek()
+        return self.place()
+
     def error(self, reason: str) -> Unusable:
         """What is wrong at the cursor."""
         return Unusable(reason, self.place())

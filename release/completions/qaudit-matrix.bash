@@ -3,10 +3,10 @@
 _qaudit_matrix() {
     local current=${COMP_WORDS[COMP_CWORD]} before=${COMP_WORDS[COMP_CWORD - 1]}
     case $before in
-        --pattern | --jobs) return ;;
+        --pattern | --jobs | --convert) return ;;
     esac
     if [[ $current == -* ]]; then
-        local words='--pattern --pages --json --against --history --known --write-known --junit --sarif --annotate --output --jobs --dygraphs --program --version --help'
+        local words='--pattern --pages --json --against --history --known --write-known --junit --sarif --annotate --output --jobs --dygraphs --program --convert --version --help'
         mapfile -t COMPREPLY < <(compgen -W "$words" -- "$current")
     else
         compopt -o filenames

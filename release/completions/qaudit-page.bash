@@ -3,10 +3,10 @@
 _qaudit_page() {
     local current=${COMP_WORDS[COMP_CWORD]} before=${COMP_WORDS[COMP_CWORD - 1]}
     case $before in
-        --from | --to | --title) return ;;
+        --from | --to | --title | --convert) return ;;
     esac
     if [[ $current == -* ]]; then
-        local words='--from --to --title --output --dygraphs --program --version --help'
+        local words='--from --to --title --output --dygraphs --program --convert --version --help'
         mapfile -t COMPREPLY < <(compgen -W "$words" -- "$current")
     else
         compopt -o filenames

@@ -15,8 +15,8 @@ _qlog_to_trace() {
         --connection | --timer-late | --timer-late-us | --slack-us | --slack-bytes | --packet-threshold | --timer-early-us | --time-threshold-eighths) return ;;
     esac
     if [ -z "$words" ] && [[ $current == -* ]]; then
-        words='--format --version --vantage --connection --dialect --notes --timer-late --timer-late-us --refresh-min-rtt
-            --slack-us --slack-bytes --unit --window --window-overshoot --sample-eliciting-only
+        words='--format --version --vantage --connection --dialect --notes --places --timer-late --timer-late-us
+            --refresh-min-rtt --slack-us --slack-bytes --unit --window --window-overshoot --sample-eliciting-only
             --packet-threshold --timer-early-us --loss-by-number --threshold-counts --reset-rtt
             --latest-rtt-less-delay --time-threshold-eighths --recovery-by-order --help'
     fi

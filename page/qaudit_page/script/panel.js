@@ -12,6 +12,9 @@ const VALUES = [
   ['PTO count', 'pto_count', '', ''],
 ];
 
+// The record of a line, by the line or the byte of the log, or where the line was guessed.
+const ORIGIN = /^(guessed at )?(line|byte) (\d{1,18})(?: to (?:line|byte) (\d{1,18}))?$/;
+
 // Shows a line under the cursor, in all diagrams; -1 for none.
 function showCursor(place) {
   if (place === cursorAt && isCursorHere) return;
@@ -51,8 +54,31 @@ function fillPanel() {
   const head = element('h2', `Line ${grouped(trace.first + place)}${time}`);
   head.append(' ', element('small', whereOf(place)));
   const said = [head, element('p', whatOf(place), 'what')], stand = standingOf(place);
+  const origin = originOf(place);
+  if (origin) said.push(element('p', origin, 'origin'));
   if (stand) said.push(element('p', stand, 'stand'));
   box.replaceChildren(...said, ...otherPart(place), ...heldParts(place), valuesOf(place), jsonOf(place));
+}
+
+// Where in the log a line comes from, as the converter says at its key; nothing if it does not.
+function originOf(place) {
+  const found = ORIGIN.exec(keyOf(place, 'x_place'));
+  if (!found) return '';
+  const [, guessed, unit, first, last] = found;
+  const many = last && last !== first ? `${unit}s ${grouped(first)} to ${grouped(last)}` : '';
+  const where = `${many || `${unit} ${grouped(first)}`} of the log`;
+  return guessed ? `no record; guessed at ${where}` : where;
+}
+
+// The value of a key of a line, if it is text.
+function keyOf(place, key) {
+  try {
+    const value = JSON.parse(trace.lines[place])[key];
+    return typeof value === 'string' ? value : '';
+  } catch {
+    // Not every line is an object.
+    return '';
+  }
 }
 
 // Why the panel has a line; beside another run, and if clocks differ, where it is on the axis.

@@ -143,8 +143,9 @@ function summaryOf(place) {
   const line = `Line ${trace.first + place}, ${KINDS[trace.kind[place]]}`;
   const time = hasTime(place) ? `, ${milliseconds(trace.time[place])}` : '';
   const packet = trace.packets.of[place] >= 0 ? `, ${fateOf(trace.packets.of[place])}` : '';
-  const stand = standingOf(place), held = heldWords(place);
-  return `${line}${time}${packet}${stand && `, ${stand}`}${held && `; after it ${held}`}`;
+  const stand = standingOf(place), held = heldWords(place), origin = originOf(place);
+  const from = origin && `, ${origin}`;
+  return `${line}${time}${packet}${from}${stand && `, ${stand}`}${held && `; after it ${held}`}`;
 }
 
 // What became of a packet.
