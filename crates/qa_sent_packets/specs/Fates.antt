@@ -29,8 +29,8 @@ is_unacknowledged f = true
 abbrev pub is_closed : SentPacket → Bool
 is_closed p = not (is_open p.fate) && not (is_owed p.fate)
 
--- open, and neither ack-eliciting nor in flight: nothing but an acknowledgment or a discard asks for
--- it
+-- open, and neither ack-eliciting nor in flight: nothing but an acknowledgment or a discard asks
+-- for it
 abbrev pub is_bare : SentPacket → Bool
 is_bare p = is_open p.fate && not (p.eliciting || p.in_flight)
 

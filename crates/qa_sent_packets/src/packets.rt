@@ -453,9 +453,9 @@ impl SentPackets {
 
     /// Drops the packets before the oldest that is still open or owed. Each packet is dropped once.
     ///
-    /// Where there are more than 1,024 packets, most of them settled, an open one is set aside that
-    /// stands before all others and is neither ack-eliciting nor in flight: it would keep them until
-    /// it is acknowledged, and it may never be. Where there is no memory to set it aside it stays.
+    /// Where there are more than 1,024 packets, most of them settled, an open one is set aside if
+    /// it is the first and neither ack-eliciting nor in flight: it would keep all others until it
+    /// is acknowledged, and it may never be. Where there is no memory to set it aside it stays.
     #[inline(always)]
     pub fn drop_closed(&mut self)
         ensures sheds { Sheds self.old self.new }
@@ -591,7 +591,8 @@ impl SentPackets {
 
     /// How many entries there are by which acknowledgments find packets.
     fn entry_count(&self) -> u64
-        ensures count { result ≡ length (unacknowledged_in Initial self.now.dropped self.now.packets)
+        ensures count { result
+            ≡ length (unacknowledged_in Initial self.now.dropped self.now.packets)
             + length (unacknowledged_in Handshake self.now.dropped self.now.packets)
             + length (unacknowledged_in App self.now.dropped self.now.packets) }
         ensures bound { result ≤ length self.now.packets }
