@@ -5,7 +5,7 @@ use Rattle.std.specs.List.{AllByRecursion}
 use Rattle.std.specs.Prelude.{if◌then◌else◌}
 use Rattle.qa_base.specs.declared.event.Event.{Event}
 use Rattle.qa_base.specs.declared.space.Space.{Space}
-use Rattle.qa_base.specs.machine.Loss.{is_open as opens, owed}
+use Rattle.qa_base.specs.machine.Loss.{owed}
 use Rattle.qa_base.specs.machine.Packets.{Packet, packets, packets_of, is_of}
 use Rattle.qa_base.specs.machine.Violations.{IsToleratedRun}
 use Rattle.qa_base.specs.values.Settings.{Settings}
@@ -13,7 +13,7 @@ use Rattle.qa_ledger.specs.causes.Causes.{first_space, oldest, owed_space}
 use Rattle.qa_ledger.specs.declared.causes.cause.Oldest.{Oldest}
 use Rattle.qa_base.proofs.history.Pairs.{each_weaker, part_turned}
 use Rattle.qa_base.specs.history.Oldest.{is_flying as flies}
-use Rattle.qa_sender.proofs.Carrying.{dropped_closed}
+use Rattle.qa_sender.proofs.Carrying.{shed_grounded}
 use Rattle.qa_sender.proofs.Fates.{is_open_told}
 use Rattle.qa_sender.proofs.connection_lemmas.Lists.{each_value, find_of_map}
 use Rattle.qa_sender.proofs.Losses.{owed_stand}
@@ -67,8 +67,8 @@ pub oldest_is_held : (c : Settings) (h : List Event) (s : Space) (held : Held) �
 oldest_is_held c h s held stands =
     let test : Packet → Bool = λ p. is_of s p && flies c h p in
     let none : AllByRecursion (λ p. test p ≡ false) stands.gone =
-    each_weaker (λ p. opens c h p ≡ false) (λ p. test p ≡ false) (λ p shut. and_right (is_of s p) (flies c h p) (and_right p.in_flight (opens c h p) shut))
-    stands.gone (dropped_closed c h stands.gone stands.forgotten) in
+    each_weaker (λ p. flies c h p ≡ false) (λ p. test p ≡ false) (λ p out. and_right (is_of s p) (flies c h p) out)
+    stands.gone (shed_grounded c h stands.gone stands.shed) in
     let here : find (is_flying s) held.packets ≡ option_map (sent_of c h) (find test stands.kept) =
     ap (find (is_flying s)) stands.packets_are
     ∙ find_of_map (is_flying s) (sent_of c h) test stands.kept

@@ -1,6 +1,7 @@
 pub mod FarEnds
 pub mod Fates
 pub mod Carrying
+pub mod Aside
 pub mod Events
 pub mod Dropping
 pub mod Queries

@@ -30,7 +30,7 @@ use Rattle.qa_base.proofs.history.Settled.{nameable_space}
 use Rattle.qa_base.specs.history.Among.{counts_as_end, finds_apart}
 use Rattle.qa_base.specs.history.Declared.{is_lost_now, is_named_free}
 use Rattle.qa_base.specs.history.Sequence.{EachTwo, WasSentBefore}
-use Rattle.qa_sender.proofs.Carrying.{dropped_free}
+use Rattle.qa_sender.proofs.Carrying.{shed_free}
 use Rattle.qa_sender.proofs.Events.{some_by_length}
 use Rattle.qa_sender.proofs.Fates.{free_opened, is_acknowledged_told, is_owed_told, same_as_line}
 use Rattle.qa_sender.proofs.Nameable.{both_weaker, dropped_unnamed, part_of_kept}
@@ -60,7 +60,7 @@ owed_of_kept held c h stands =
     ∙ (sym (part_turned (owes c h) (packets h))
     ∙ (ap (filter (owes c h)) stands.parts
     ∙ (filter-append (owes c h) stands.gone stands.kept
-    ∙ ap (λ ps. ps ++ filter (owes c h) stands.kept) (none_left (owes c h) stands.gone (dropped_free c h stands.gone stands.forgotten)))))
+    ∙ ap (λ ps. ps ++ filter (owes c h) stands.kept) (none_left (owes c h) stands.gone (shed_free c h stands.gone stands.shed)))))
 
 -- in a tolerated run the packets held that are owed are those that the last event found lost, in the order of sending
 pub owed_stand : (c : Settings) (h : List Event) → IsToleratedRun c h → (held : Held) → StandsFor held c h → owed_of held.packets ≡ map (sent_of c h) (reverse (owed c h))
@@ -239,7 +239,7 @@ stands_losses c h run loses held stands = record {
   packets_are = stands.packets_are;
   owed = λ p. is_owed_told c h run p ∙ sym (loses p);
   covered = is_acknowledged_told c h;
-  none = each_weaker (λ p. owes c h p ≡ false) (λ p. is_lost_now c h p ≡ false) (λ p free. loses p ∙ free) stands.gone (dropped_free c h stands.gone stands.forgotten);
+  none = each_weaker (λ p. owes c h p ≡ false) (λ p. is_lost_now c h p ≡ false) (λ p free. loses p ∙ free) stands.gone (shed_free c h stands.gone stands.shed);
 }
 
 told_if : (f : Fate) (p : Packet) (b : Bool) → (if b then with_fate Owed (told f p) else told f p) ≡ told (if b then Owed else f) p
@@ -272,7 +272,7 @@ named_told c h time space ranges run free are p =
 unnamed_of : (fr nm : Bool) → fr ≡ false → (fr && nm) ≡ false
 unnamed_of fr nm none = rw none refl
 
--- none of those that were dropped is
+-- none of those that left the queue is
 dropped_not_named : (c : Settings) (h : List Event) → IsToleratedRun c h → (held : Held) (stands : StandsFor held c h) → (e : Event) → AllByRecursion (λ p. is_named_free c e h p ≡ false) stands.gone
 dropped_not_named c h run held stands e =
     each_weaker (λ p. is_nameable c h p ≡ false) (λ p. is_named_free c e h p ≡ false)
@@ -331,7 +331,7 @@ taken_losses c h time space ranges run free are some old new stands is =
           (λ was. free_opened c h run.0 p (sym (are p) ∙ (and_parts (is_free_by free (sent_of c h p)) (is_named ranges p.number) was).0));
       none = both_weaker (λ p. owes c h p ≡ false) (λ p. is_named_free c e h p ≡ false) (λ p. is_lost_now c (e ∷ h) p ≡ false)
           (λ p none also. unlost_if (list_any (is_named_free c e h) (packets h)) (owes c h p) (is_named_free c e h p) none also)
-          stands.gone (dropped_free c h stands.gone stands.forgotten) (dropped_not_named c h run.0 old stands e);
+          stands.gone (shed_free c h stands.gone stands.shed) (dropped_not_named c h run.0 old stands e);
     }
 
 none_left_at : (c : Settings) (h : List Event) (e : Event) → detection c h ≡ None → (ps : List Packet) → list_any (is_named_free c e h) ps ≡ false

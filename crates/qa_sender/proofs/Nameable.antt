@@ -1,6 +1,6 @@
 -- What is free by what is kept is what is free after the history, and so is what may be named.
 use Rattle.std.proofs.Common.{◌≡◌, ◌∙◌, ℕ, ◌+◌, List, [], ◌∷◌, ◌++◌, map, Bool, true, false, ◌&&◌, ◌||◌, not, Option, Some, None, option_map, refl, sym, ap, ap₂, subst, arith, filter, reverse}
-use Rattle.std.proofs.lemmas.Bool.{and_parts, and_right, both_ways, false_from_ne_true, or_right}
+use Rattle.std.proofs.lemmas.Bool.{and_right, both_ways, false_from_ne_true, or_right}
 use Rattle.std.proofs.lemmas.Bool.Decides.{nat_tests}
 use Rattle.std.proofs.lemmas.List.Elements.{filter-append}
 use Rattle.std.specs.List.{AllByRecursion, list_all, list_any}
@@ -29,7 +29,7 @@ use Rattle.qa_base.proofs.history.Changes.{free_is_flying}
 use Rattle.qa_base.proofs.history.ToleratedRuns.{is_space_is}
 use Rattle.qa_base.proofs.history.Detection.{space_of_detection}
 use Rattle.qa_base.proofs.history.Pairs.{none_left, part_turned}
-use Rattle.qa_sender.proofs.Carrying.{dropped_closed, dropped_free}
+use Rattle.qa_sender.proofs.Carrying.{shed_free, shed_grounded}
 use Rattle.qa_sender.proofs.Fates.{is_open_told, is_owed_told}
 use Rattle.qa_sender.specs.Freeing.{end_of, free_of, freed}
 use Rattle.qa_sender.specs.Thresholds.{far_end, far_end_below}
@@ -167,13 +167,13 @@ pub both_weaker : (P Q R : Packet → Type 0) → ((p : Packet) → P p → Q p 
 both_weaker P Q R goes [] a b = tt
 both_weaker P Q R goes (p ∷ ps) a b = (goes p a.0 b.0, both_weaker P Q R goes ps a.1 b.1)
 
--- none of those that were dropped may be named
+-- none of those that left the queue may be named
 pub dropped_unnamed : (c : Settings) (h : List Event) → IsToleratedRun c h → (held : Held) (stands : StandsFor held c h) → AllByRecursion (λ p. is_nameable c h p ≡ false) stands.gone
 dropped_unnamed c h run held stands =
-    both_weaker (λ p. opens c h p ≡ false) (λ p. owes c h p ≡ false) (λ p. is_nameable c h p ≡ false)
-    (λ p shut none. neither_of (owes c h p) (is_free c h p) none
-    (false_from_ne_true (is_free c h p) (λ left. both_ways (opens c h p) shut (and_parts p.in_flight (opens c h p) (free_is_flying c h run p left)).1)))
-    stands.gone (dropped_closed c h stands.gone stands.forgotten) (dropped_free c h stands.gone stands.forgotten)
+    both_weaker (λ p. (p.in_flight && opens c h p) ≡ false) (λ p. owes c h p ≡ false) (λ p. is_nameable c h p ≡ false)
+    (λ p out none. neither_of (owes c h p) (is_free c h p) none
+    (false_from_ne_true (is_free c h p) (λ left. both_ways (p.in_flight && opens c h p) out (free_is_flying c h run p left))))
+    stands.gone (shed_grounded c h stands.gone stands.shed) (shed_free c h stands.gone stands.shed)
 
 -- a test that none of those passes is asked of the rest, in the order of sending
 pub part_of_kept : (test : Packet → Bool) (h : List Event) (gone kept : List Packet) → reverse (packets h) ≡ gone ++ kept → AllByRecursion (λ p. test p ≡ false) gone

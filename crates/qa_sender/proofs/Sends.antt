@@ -10,9 +10,10 @@ use Rattle.qa_base.specs.machine.Breaches.{is_loss_owed}
 use Rattle.qa_base.specs.machine.Loss.{owed}
 use Rattle.qa_base.specs.machine.Packets.{is_some_packet}
 use Rattle.qa_base.specs.machine.Violations.{IsToleratedRun}
+use Rattle.qa_base.specs.values.PerSpace.{of_space}
 use Rattle.qa_base.specs.values.Settings.{Settings}
 use Rattle.qa_sender.proofs.Dropping.{held_are_few}
-use Rattle.qa_sender.proofs.Events.{sent_last, settled_before}
+use Rattle.qa_sender.proofs.Events.{sent_above, sent_last, settled_before}
 use Rattle.qa_sender.specs.Following.{as_sent, IsNext}
 use Rattle.qa_sent_packets.specs.Held.{Held, IsBefore}
 use Rattle.qa_sent_packets.specs.Owing.{NoneOwed}
@@ -27,6 +28,11 @@ pub next_is_last : (events : ℕ) (held : Held) (e : Event) → IsNext events he
 next_is_last events held e next packet permission placed is =
     let place : packet.place ≡ length next.history = at_its_place events next.history packet placed next.counted next.run.few in
     sent_last next.header next.history packet permission place (subst (λ (x : Event). IsToleratedRun next.header (x ∷ next.history)) is next.run.run) held next.stands
+
+pub next_is_above : (events : ℕ) (held : Held) (e : Event) → IsNext events held e → (packet : SentPacket) (permission : Permission)
+    → e ≡ Sent (as_sent packet permission) → AllByRecursion (λ q. q.number < packet.number) (of_space packet.space held.strays)
+next_is_above events held e next packet permission is =
+    sent_above next.header next.history packet permission (subst (λ (x : Event). IsToleratedRun next.header (x ∷ next.history)) is next.run.run) held next.stands
 
 pub next_has_room : (events : ℕ) (held : Held) (e : Event) → IsNext events held e → held.dropped + length held.packets < 4294967295
 next_has_room events held e next = omega (arith, held_are_few held next.header next.history next.stands, next.run.few)

@@ -1,6 +1,6 @@
 -- The numbers that are free by what is kept are those that are free after the history.
-use Rattle.std.proofs.Common.{◌≡◌, ◌∙◌, ℕ, List, map, false, Option, Some, None, option_map, refl, sym, ap, filter, reverse}
-use Rattle.std.proofs.lemmas.Bool.{and_parts, both_ways, false_from_ne_true}
+use Rattle.std.proofs.Common.{◌≡◌, ◌∙◌, ◌&&◌, ℕ, List, map, false, Option, Some, None, option_map, refl, sym, ap, filter, reverse}
+use Rattle.std.proofs.lemmas.Bool.{both_ways, false_from_ne_true}
 use Rattle.std.specs.List.{AllByRecursion}
 use Rattle.qa_base.specs.declared.event.Event.{Event}
 use Rattle.qa_base.specs.declared.space.Space.{Space}
@@ -19,7 +19,7 @@ use Rattle.qa_sender.specs.declared.connection.connection.Connection.{Connection
 use Rattle.qa_sender.specs.declared.connection.detection.Detection.{Detection}
 use Rattle.qa_base.proofs.history.Changes.{free_is_flying}
 use Rattle.qa_base.proofs.history.Pairs.{each_weaker, none_left, of_each, part_of_part}
-use Rattle.qa_sender.proofs.Carrying.{dropped_closed}
+use Rattle.qa_sender.proofs.Carrying.{shed_grounded}
 use Rattle.qa_sender.proofs.Nameable.{free_told, part_of_kept}
 use Rattle.qa_sender.specs.Freeing.{free_of}
 use Rattle.qa_sender.specs.Standing.{StandsFor}
@@ -34,12 +34,12 @@ left_part : (c : Settings) (h : List Event) (d : Option (Space × ℕ)) → filt
 left_part c h None = none_left (λ p. false) (packets h) (of_each (λ p. false ≡ false) (packets h) (λ p has. refl))
 left_part c h (Some (s, now)) = part_of_part (is_of s) (is_left c (sampled c h) h now s) (packets h)
 
--- none of those that were dropped is free
+-- none of those that left the queue is free
 dropped_unfree : (c : Settings) (h : List Event) → IsToleratedRun c h → (held : Held) (stands : StandsFor held c h) → AllByRecursion (λ p. is_free c h p ≡ false) stands.gone
 dropped_unfree c h run held stands =
-    each_weaker (λ p. opens c h p ≡ false) (λ p. is_free c h p ≡ false)
-    (λ p shut. false_from_ne_true (is_free c h p) (λ left. both_ways (opens c h p) shut (and_parts p.in_flight (opens c h p) (free_is_flying c h run p left)).1))
-    stands.gone (dropped_closed c h stands.gone stands.forgotten)
+    each_weaker (λ p. (p.in_flight && opens c h p) ≡ false) (λ p. is_free c h p ≡ false)
+    (λ p out. false_from_ne_true (is_free c h p) (λ left. both_ways (p.in_flight && opens c h p) out (free_is_flying c h run p left)))
+    stands.gone (shed_grounded c h stands.gone stands.shed)
 
 -- in a tolerated run they are those of the packets held that are free, in the order of sending
 pub free_numbers_stand : (k : Connection) (c : Settings) (h : List Event) → IsToleratedRun c h → IsOf k c h → (held : Held) → StandsFor held c h

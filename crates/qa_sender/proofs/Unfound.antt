@@ -41,7 +41,7 @@ none_below s l (p ∷ ps) none =
     ap (λ q. q ∷ map (found_by s l) ps) here ∙ ap (λ qs. p ∷ qs) (none_below s l ps parts.1)
 
 abbrev with_packets : Held → List SentPacket → Held
-with_packets held ps = record { dropped = held.dropped; packets = ps }
+with_packets held ps = record { dropped = held.dropped; packets = ps; strays = held.strays }
 
 -- the packets held are those that a detection leaves
 pub unfound : (s : Space) (l : Thresholds) (held : Held) → list_any (λ p. is_flying s p && nat_lt p.number (unwrap_or l.largest 0)) held.packets ≡ false → held ≡ replaced (found_by s l) held

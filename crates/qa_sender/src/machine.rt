@@ -1,5 +1,5 @@
 //! What each kind of event does to the state of a sender.
-ghost use Rattle.std.specs.Prelude.{◌≡◌, ◌≤◌, ◌<◌, ◌+◌, [], ◌∷◌, ℕ, List, length, filter, map};
+ghost use Rattle.std.specs.Prelude.{◌≡◌, ◌≤◌, ◌<◌, ◌+◌, [], ◌∷◌, ℕ, List, length};
 ghost use Rattle.std.specs.Prelude.{true, false, Some, IfOk, OnOk, OnErr, fold, min};
 ghost use Rattle.std.specs.List.{AllByRecursion};
 ghost use Rattle.qa_base.specs.declared.event.Event.{Event as AnEvent};
@@ -12,6 +12,7 @@ ghost use Rattle.qa_base.specs.machine.Loss as loss;
 ghost use Rattle.qa_base.specs.machine.Violations.{IsToleratedRun};
 ghost use Rattle.qa_base.specs.values.Events.{fits, time_of};
 ghost use Rattle.qa_base.specs.values.Limits.{max_lines, max_packet_size};
+ghost use Rattle.qa_base.specs.values.PerSpace.{of_space};
 ghost use Rattle.qa_base.specs.values.Settings.{AreInRange, Settings};
 ghost use Rattle.qa_sender.specs.connection.Changes.{completed, with_persistent_congestion};
 ghost use Rattle.qa_sender.specs.connection.Changes.{with_congestion_event};
@@ -31,11 +32,10 @@ ghost use Rattle.qa_sender.specs.Machine.{Follows, StandsFor as Stands, StandsOn
 ghost use Rattle.qa_sender.specs.Standing.{StandsFor};
 ghost use Rattle.qa_sender.specs.Trimmed.{IsTrimmed};
 ghost use Rattle.qa_sender.specs.Watch.{IsWatched};
-ghost use Rattle.qa_sent_packets.specs.Fates.{is_new};
 ghost use Rattle.qa_sent_packets.specs.Free.{AreOwedIn};
 ghost use Rattle.qa_sent_packets.specs.Held.{IsBefore};
 ghost use Rattle.qa_sent_packets.specs.Owing.{NoneOwed};
-ghost use Rattle.qa_sent_packets.specs.Steps.{covered_by};
+ghost use Rattle.qa_sent_packets.specs.Steps as steps;
 ghost use Rattle.qa_sent_packets.specs.declared.fate.Fate.TheVariants.{Open};
 
 use crate::answers::open_in;
@@ -55,7 +55,7 @@ use std::alloc::{AllocError, Global};
 pub(crate) struct Machine {
     /// The connection.
     pub(crate) connection: Connection,
-    /// The packets since the oldest that is still open or owed.
+    /// The packets since the oldest that is still open or owed, and those that were set aside.
     pub(crate) packets: SentPackets,
     /// The numbers that were sent.
     pub(crate) numbers: SentNumbers,
@@ -106,9 +106,10 @@ impl Machine {
         Ok(())
     }
 
-    /// A packet was sent (A.5 and B.4). It is open, was sent after those that are kept, and fewer
-    /// than 4,294,967,295 were ever sent. `AllocError` comes where it is out of memory; its number
-    /// may be among those that were sent then, and nothing else has changed.
+    /// A packet was sent (A.5 and B.4). It is open, was sent after those that are kept, its number
+    /// is higher than those of its space that were set aside, and fewer than 4,294,967,295 were
+    /// ever sent. `AllocError` comes where it is out of memory; its number may be among those that
+    /// were sent then, and nothing else has changed.
     pub(crate) fn on_sent(
         &mut self,
         packet: SentPacket,
@@ -117,6 +118,8 @@ impl Machine {
         requires open { packet.fate ≡ Open }
         requires small { packet.size ≤ max_packet_size }
         requires ordered { AllByRecursion (λ q. IsBefore packet q) self.old.packets.packets }
+        requires aside { AllByRecursion (λ q. q.number < packet.number)
+            (of_space packet.space self.old.packets.strays) }
         requires few { self.old.packets.dropped + length self.old.packets.packets < max_lines }
         requires place { packet.place ≡ min self.old.connection.events max_lines }
         ensures ok { OnOk result
@@ -441,8 +444,8 @@ impl Machine {
     }
 }
 
-/// Drops the packets that are of no more use. The first that is left is open or owed.
-#[tactic(auto, using(crate::proofs::Dropping::stands_trimmed, crate::proofs::Dropping::front_dropped))]
+/// Drops the packets that are of no more use, and sets others aside. The first that is left is open
+/// or owed.
 #[inline(always)]
 fn trim(packets: &mut SentPackets)
     ensures stands { (c : Settings) (h : List AnEvent) → IsToleratedRun c h
@@ -463,14 +466,9 @@ fn cover(
     spans: &[Span],
 ) -> Result<Vec<SentPacket>, AllocError>
     requires settled { NoneOwed packets.old.packets }
-    ensures ok { OnOk result
-        (packets.new
-        ≡ record {
-          dropped = packets.old.dropped;
-          packets = map (covered_by space spans.now) packets.old.packets;
-        }) }
+    ensures ok { OnOk result (packets.new ≡ steps.acknowledged space spans.now packets.old) }
     ensures found { IfOk result (λ found. found.items
-        ≡ filter (is_new space spans.now) packets.old.packets) }
+        ≡ steps.newly_found space spans.now packets.old) }
     ensures err { OnErr result (packets.new ≡ packets.old) }
 {
     let mut found = packets.lend_list();

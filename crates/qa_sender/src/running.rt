@@ -15,7 +15,7 @@ ghost use Rattle.qa_base.specs.values.Settings.{Settings};
 ghost use Rattle.qa_packet_numbers.specs.Sent.{runs_in};
 ghost use Rattle.qa_sender.specs.Following.{takes_memory};
 ghost use Rattle.qa_sender.specs.Running.{Answers, IsAfter};
-ghost use Rattle.qa_sent_packets.specs.Held.{unacknowledged_in};
+ghost use Rattle.qa_sent_packets.specs.Held.{aside_count, unacknowledged_in};
 ghost use Rattle.qa_base.specs.values.Limits.{max_lines};
 
 use crate::machine::Machine;
@@ -26,9 +26,9 @@ use std::marker::Model;
 
 /// A ledger that passes once over the events, and keeps none of them.
 ///
-/// It keeps the packets since the oldest that is still open or owed, the numbers that were sent as
-/// runs, and what the machine knows of the connection. An event takes about the same time however
-/// many there were before it.
+/// It keeps the packets since the oldest that is still open or owed, and of those before some that
+/// are open and were set aside; the numbers that were sent as runs; and what the machine knows of
+/// the connection. An event takes about the same time however many there were before it.
 #[derive(Drop)]
 pub struct Running {
     pub(crate) alloc: Global,
@@ -62,8 +62,8 @@ impl Running {
     }
 
     /// How many things it keeps: the packets, the entries by which an acknowledgment finds them,
-    /// and the runs of consecutive numbers that were sent. It keeps nothing else whose size grows,
-    /// and takes constant time to say so.
+    /// the packets that were set aside, and the runs of consecutive numbers that were sent. It
+    /// keeps nothing else whose size grows, and takes constant time to say so.
     ///
     /// That is at most twice the number of packets that were sent since the oldest that is still
     /// open or owed, and the runs of all spaces.
@@ -72,12 +72,13 @@ impl Running {
             + (length (unacknowledged_in Initial self.now.packets.dropped self.now.packets.packets)
             + length (unacknowledged_in Handshake self.now.packets.dropped self.now.packets.packets)
             + length (unacknowledged_in App self.now.packets.dropped self.now.packets.packets))
+            + aside_count self.now.packets.strays
             + (length (runs_in self.now.numbers Initial)
             + length (runs_in self.now.numbers Handshake) + length (runs_in self.now.numbers App)) }
         ensures bound { (c : Settings) (h : List AnEvent) → Answers self.now c h
             → result ≤ 2 * kept.kept_count c h + kept.runs h }
     {
-        u128::from(self.machine.packets.kept_count()) + self.machine.numbers.runs()
+        self.machine.packets.kept_count() + self.machine.numbers.runs()
     }
 
     /// The state of the machine after the events that were admitted, also where it has failed

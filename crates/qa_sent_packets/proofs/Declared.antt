@@ -18,6 +18,7 @@ use Rattle.qa_sent_packets.specs.declared.packets.Losses.{Losses}
 use Rattle.qa_sent_packets.proofs.Alike.{IsAlike, IsSame, alike_if, alike_same, space_packets_alike, ordered_same, same_if, sizes_same}
 use Rattle.qa_sent_packets.proofs.Parts.{each_weaker, map_same}
 use Rattle.qa_sent_packets.proofs.Settled.{losses_none}
+use Rattle.qa_sent_packets.proofs.Sound.{above_same}
 
 -- ---- what becomes of one packet
 
@@ -66,8 +67,8 @@ declared_all ps from to part =
     ap (λ qs. map declared (take to ps) ++ qs) (sym (declared_none (drop to ps) part.behind))
     ∙ (sym (map-append declared (take to ps) (drop to ps)) ∙ ap (map declared) (take-append-drop to ps))
 
-pub sound_declared : (d : ℕ) (ps : List SentPacket) (losses after : Losses) (by_space : PerSpace SpacePackets) → IsSound d ps losses by_space → after.count ≡ 0 → IsSound d (map declared ps) after by_space
-sound_declared d ps losses after by_space sound zero =
+pub sound_declared : {strays : PerSpace (List SentPacket)} (d : ℕ) (ps : List SentPacket) (losses after : Losses) (by_space : PerSpace SpacePackets) → IsSound d ps losses by_space strays → after.count ≡ 0 → IsSound d (map declared ps) after by_space strays
+sound_declared {strays} d ps losses after by_space sound zero =
     let long : length (map declared ps) ≡ length ps = length-map ps declared in
     let few = sound.few in
     record {
@@ -78,4 +79,5 @@ sound_declared d ps losses after by_space sound zero =
       ordered = ordered_same declared declared_same ps sound.ordered;
       sizes = sizes_same max_packet_size declared declared_same ps sound.sizes;
       few = omega (arith, few, long);
+      above = above_same strays declared declared_same ps sound.above;
     }

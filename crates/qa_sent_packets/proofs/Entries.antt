@@ -169,7 +169,7 @@ same_entries s d (y ∷ ps) (suc at) p x is number waits =
 after_all : (k m : ℕ) → m < k → nat_cmp k m ≡ Greater
 after_all k m above = grind (arith, nat_tests)
 
-pub enters_last : (n place : ℕ) (es : List (ℕ × ℕ)) → AllByRecursion (λ e. e.0 < n) es → insert_entry nat_cmp es n place ≡ es ++ (n, place) ∷ []
+pub enters_last : {X : Type 0} (n : ℕ) (place : X) (es : List (ℕ × X)) → AllByRecursion (λ e. e.0 < n) es → insert_entry nat_cmp es n place ≡ es ++ (n, place) ∷ []
 enters_last n place [] above = refl
 enters_last n place (e ∷ es) above =
     ap (λ o. match_ordering o ((n, place) ∷ e ∷ es) ((e.0, place) ∷ es) (e ∷ insert_entry nat_cmp es n place)) (after_all n e.0 above.0)

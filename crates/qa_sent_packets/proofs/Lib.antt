@@ -5,6 +5,7 @@ pub mod Detected
 pub mod Discarded
 pub mod Dropped
 pub mod Entries
+pub mod Filed
 pub mod Stretches
 pub mod Numbers
 pub mod Opened

@@ -58,7 +58,7 @@ one_kept false p qs = refl
 at_end : (lo hi n : ℕ) → is_between lo hi n ≡ true → n ≤ hi
 at_end lo hi n e = grind (arith, nat_tests)
 
-at_begin : (lo hi n : ℕ) → is_between lo hi n ≡ true → lo ≤ n
+pub at_begin : (lo hi n : ℕ) → is_between lo hi n ≡ true → lo ≤ n
 at_begin lo hi n e = grind (arith, nat_tests)
 
 -- the numbers that these ranges name are below
@@ -90,7 +90,7 @@ none_named s lo x front (p ∷ ps) here from below before = elim (cases_Bool (is
   | inr out ↦ ap (λ b. cond b (p ∷ filter (is_new s front) ps) (filter (is_new s front) ps)) out ∙ none_named s lo x front ps here from below before.1
 ]
 
-both_step : (x : SentPacket) (mine first second both : Bool) (us vs ws : List SentPacket) → both ≡ (first || second) → (first ≡ true → second ≡ true → ⊥) → (mine ≡ true → second ≡ true → us ≡ []) → us ++ vs ≡ ws
+pub both_step : (x : SentPacket) (mine first second both : Bool) (us vs ws : List SentPacket) → both ≡ (first || second) → (first ≡ true → second ≡ true → ⊥) → (mine ≡ true → second ≡ true → us ≡ []) → us ++ vs ≡ ws
     → cond (mine && first) (x ∷ us) us ++ cond (mine && second) (x ∷ vs) vs ≡ cond (mine && both) (x ∷ ws) ws
 both_step x true true true both us vs ws is apart none rest = absurd (apart refl refl)
 both_step x true true false both us vs ws is apart none rest = rw is (ap (λ ys. x ∷ ys) rest)

@@ -177,29 +177,30 @@ ordered_push : (ps : List SentPacket) (p : SentPacket) → AreOrdered ps → All
 ordered_push [] p ordered before = (tt, tt)
 ordered_push (q ∷ ps) p ordered before = (each_push (λ x. IsBefore x q) ps p ordered.0 before.0, ordered_push ps p ordered.1 before.1)
 
-beside_push : (d : ℕ) (ps : List SentPacket) (p : SentPacket) (losses : Losses) → p.fate ≡ Open → p.size ≤ max_packet_size → AllByRecursion (λ q. IsBefore p q) ps → d + length ps < 4294967295
-    → IsSoundBeside d ps losses → IsSoundBeside d (ps ++ p ∷ []) losses
-beside_push d ps p losses is small before few b =
+beside_push : (d : ℕ) (ps : List SentPacket) (p : SentPacket) (losses : Losses) (strays : PerSpace (List SentPacket)) → p.fate ≡ Open → p.size ≤ max_packet_size → AllByRecursion (λ q. IsBefore p q) ps → d + length ps < 4294967295
+    → AllByRecursion (λ q. q.number < p.number) (of_space p.space strays) → IsSoundBeside d ps losses strays → IsSoundBeside d (ps ++ p ∷ []) losses strays
+beside_push d ps p losses strays is small before few aside b =
     let long : length (ps ++ p ∷ []) ≡ length ps + 1 = length-append ps (p ∷ []) in
     record {
       owed = losses_push d ps p losses is b.owed;
       ordered = ordered_push ps p b.ordered before;
       sizes = each_push (λ (q : SentPacket). q.size ≤ max_packet_size) ps p b.sizes small;
       few = omega (arith, long, few);
+      above = each_push (λ (q : SentPacket). AllByRecursion (λ (x : SentPacket). x.number < q.number) (of_space q.space strays)) ps p b.above aside;
     }
 
-pub sound_push : (d : ℕ) (ps : List SentPacket) (p : SentPacket) (losses : Losses) (by_space : PerSpace SpacePackets) (space_packets : SpacePackets) → p.fate ≡ Open → p.size ≤ max_packet_size
-    → AllByRecursion (λ q. IsBefore p q) ps → d + length ps < 4294967295 → IsSound d ps losses by_space → IsSpacePackets p.space d (ps ++ p ∷ []) space_packets
-    → IsSound d (ps ++ p ∷ []) losses (with_space p.space by_space space_packets)
-sound_push d ps p losses by_space space_packets is small before few sound own =
-    sound_with d (ps ++ p ∷ []) losses by_space p.space space_packets (beside_push d ps p losses is small before few (beside d ps losses by_space sound)) own
+pub sound_push : {strays : PerSpace (List SentPacket)} (d : ℕ) (ps : List SentPacket) (p : SentPacket) (losses : Losses) (by_space : PerSpace SpacePackets) (space_packets : SpacePackets) → p.fate ≡ Open → p.size ≤ max_packet_size
+    → AllByRecursion (λ q. IsBefore p q) ps → d + length ps < 4294967295 → AllByRecursion (λ q. q.number < p.number) (of_space p.space strays) → IsSound d ps losses by_space strays → IsSpacePackets p.space d (ps ++ p ∷ []) space_packets
+    → IsSound d (ps ++ p ∷ []) losses (with_space p.space by_space space_packets) strays
+sound_push {strays} d ps p losses by_space space_packets is small before few aside sound own =
+    sound_with d (ps ++ p ∷ []) losses by_space p.space space_packets (beside_push d ps p losses strays is small before few aside (beside d ps losses by_space strays sound)) own
     (λ t out. space_packets_elsewhere t d ps p (of_space t by_space) out (space_packets_sound d ps losses by_space sound t))
 
 -- where it was out of memory, all is as it was
-pub sound_added : {E : Type 0} (result : Result (Unit {0}) E) (d : ℕ) (ps after : List SentPacket) (p : SentPacket) (losses : Losses) (by_space : PerSpace SpacePackets) (space_packets : SpacePackets) → p.fate ≡ Open
-    → p.size ≤ max_packet_size → AllByRecursion (λ q. IsBefore p q) ps → d + length ps < 4294967295 → IsSound d ps losses by_space → OnOk result (after ≡ ps ++ p ∷ []) → OnErr result (after ≡ ps)
-    → IsSpacePackets p.space d after space_packets → IsSound d after losses (with_space p.space by_space space_packets)
-sound_added (Ok _) d ps after p losses by_space space_packets is small before few sound added same own =
-    rw added (sound_push d ps p losses by_space space_packets is small before few sound (rw added at own))
-sound_added (Err _) d ps after p losses by_space space_packets is small before few sound added same own =
-    rw same (sound_with d ps losses by_space p.space space_packets (beside d ps losses by_space sound) (rw same at own) (λ t out. space_packets_sound d ps losses by_space sound t))
+pub sound_added : {E : Type 0} {strays : PerSpace (List SentPacket)} (result : Result (Unit {0}) E) (d : ℕ) (ps after : List SentPacket) (p : SentPacket) (losses : Losses) (by_space : PerSpace SpacePackets) (space_packets : SpacePackets) → p.fate ≡ Open
+    → p.size ≤ max_packet_size → AllByRecursion (λ q. IsBefore p q) ps → d + length ps < 4294967295 → AllByRecursion (λ q. q.number < p.number) (of_space p.space strays) → IsSound d ps losses by_space strays → OnOk result (after ≡ ps ++ p ∷ []) → OnErr result (after ≡ ps)
+    → IsSpacePackets p.space d after space_packets → IsSound d after losses (with_space p.space by_space space_packets) strays
+sound_added (Ok _) d ps after p losses by_space space_packets is small before few aside sound added same own =
+    rw added (sound_push d ps p losses by_space space_packets is small before few aside sound (rw added at own))
+sound_added {strays = strays} (Err _) d ps after p losses by_space space_packets is small before few aside sound added same own =
+    rw same (sound_with d ps losses by_space p.space space_packets (beside d ps losses by_space strays sound) (rw same at own) (λ t out. space_packets_sound d ps losses by_space sound t))

@@ -17,7 +17,7 @@ use Rattle.qa_sent_packets.specs.declared.packets.Losses.{Losses}
 use Rattle.qa_sent_packets.proofs.Acknowledged.{covered_alike, covered_not_owed, covered_same}
 use Rattle.qa_sent_packets.proofs.Alike.{IsAlike, IsSame, space_packets_alike, ordered_same, sizes_same}
 use Rattle.qa_sent_packets.proofs.Parts.{each_drop, each_map, each_take, each_weaker}
-use Rattle.qa_sent_packets.proofs.Sound.{IsSoundBeside, beside, space_packets_sound, sound_with}
+use Rattle.qa_sent_packets.proofs.Sound.{IsSoundBeside, above_same, beside, space_packets_sound, sound_with}
 
 pub count_none : (ps : List SentPacket) → NoneOwed ps → count_by (λ p. is_owed p.fate) ps ≡ 0
 count_none [] none = refl
@@ -39,9 +39,9 @@ losses_none d ps losses count none = record {
   behind = each_drop (λ p. is_owed p.fate ≡ false) ps (losses.to - d) none;
 }
 
-beside_settled : (d : ℕ) (ps : List SentPacket) (losses : Losses) (f : SentPacket → SentPacket) → ((p : SentPacket) → IsSame p (f p)) → ((p : SentPacket) → is_owed p.fate ≡ false → is_owed (f p).fate ≡ false)
-    → NoneOwed ps → IsSoundBeside d ps losses → IsSoundBeside d (map f ps) losses
-beside_settled d ps losses f each closed none b =
+beside_settled : (d : ℕ) (ps : List SentPacket) (losses : Losses) (strays : PerSpace (List SentPacket)) (f : SentPacket → SentPacket) → ((p : SentPacket) → IsSame p (f p)) → ((p : SentPacket) → is_owed p.fate ≡ false → is_owed (f p).fate ≡ false)
+    → NoneOwed ps → IsSoundBeside d ps losses strays → IsSoundBeside d (map f ps) losses strays
+beside_settled d ps losses strays f each closed none b =
     let long : length (map f ps) ≡ length ps = length-map ps f in
     let few = b.few in
     record {
@@ -49,20 +49,21 @@ beside_settled d ps losses f each closed none b =
       ordered = ordered_same f each ps b.ordered;
       sizes = sizes_same max_packet_size f each ps b.sizes;
       few = omega (arith, long, few);
+      above = above_same strays f each ps b.above;
     }
 
-pub sound_settled : (d : ℕ) (ps : List SentPacket) (losses : Losses) (by_space : PerSpace SpacePackets) (s : Space) (space_packets : SpacePackets) (f : SentPacket → SentPacket)
+pub sound_settled : {strays : PerSpace (List SentPacket)} (d : ℕ) (ps : List SentPacket) (losses : Losses) (by_space : PerSpace SpacePackets) (s : Space) (space_packets : SpacePackets) (f : SentPacket → SentPacket)
     → ((p : SentPacket) → IsSame p (f p)) → ((p : SentPacket) → is_owed p.fate ≡ false → is_owed (f p).fate ≡ false)
     → ((t : Space) → is_space t s ≡ false → (p : SentPacket) → IsAlike t p (f p))
-    → NoneOwed ps → IsSound d ps losses by_space → IsSpacePackets s d (map f ps) space_packets → IsSound d (map f ps) losses (with_space s by_space space_packets)
-sound_settled d ps losses by_space s space_packets f each closed alike none sound own =
-    sound_with d (map f ps) losses by_space s space_packets (beside_settled d ps losses f each closed none (beside d ps losses by_space sound)) own
+    → NoneOwed ps → IsSound d ps losses by_space strays → IsSpacePackets s d (map f ps) space_packets → IsSound d (map f ps) losses (with_space s by_space space_packets) strays
+sound_settled {strays} d ps losses by_space s space_packets f each closed alike none sound own =
+    sound_with d (map f ps) losses by_space s space_packets (beside_settled d ps losses strays f each closed none (beside d ps losses by_space strays sound)) own
     (λ t out. space_packets_alike t f (alike t out) d ps (of_space t by_space) (space_packets_sound d ps losses by_space sound t))
 
 -- whether an acknowledgment was taken in or was out of memory
-pub sound_acknowledged : {E : Type 0} (result : Result (Unit {0}) E) (d : ℕ) (ps after : List SentPacket) (losses : Losses) (by_space : PerSpace SpacePackets) (s : Space) (space_packets : SpacePackets) (ranges : List (ℕ × ℕ)) → NoneOwed ps
-    → IsSound d ps losses by_space → OnOk result (after ≡ map (covered_by s ranges) ps) → OnErr result (after ≡ ps) → IsSpacePackets s d after space_packets → IsSound d after losses (with_space s by_space space_packets)
+pub sound_acknowledged : {E : Type 0} {strays : PerSpace (List SentPacket)} (result : Result (Unit {0}) E) (d : ℕ) (ps after : List SentPacket) (losses : Losses) (by_space : PerSpace SpacePackets) (s : Space) (space_packets : SpacePackets) (ranges : List (ℕ × ℕ)) → NoneOwed ps
+    → IsSound d ps losses by_space strays → OnOk result (after ≡ map (covered_by s ranges) ps) → OnErr result (after ≡ ps) → IsSpacePackets s d after space_packets → IsSound d after losses (with_space s by_space space_packets) strays
 sound_acknowledged (Ok _) d ps after losses by_space s space_packets ranges none sound covered same own =
     rw covered (sound_settled d ps losses by_space s space_packets (covered_by s ranges) (covered_same s ranges) (covered_not_owed s ranges) (covered_alike s ranges) none sound (rw covered at own))
-sound_acknowledged (Err _) d ps after losses by_space s space_packets ranges none sound covered same own =
-    rw same (sound_with d ps losses by_space s space_packets (beside d ps losses by_space sound) (rw same at own) (λ t out. space_packets_sound d ps losses by_space sound t))
+sound_acknowledged {strays = strays} (Err _) d ps after losses by_space s space_packets ranges none sound covered same own =
+    rw same (sound_with d ps losses by_space s space_packets (beside d ps losses by_space strays sound) (rw same at own) (λ t out. space_packets_sound d ps losses by_space sound t))

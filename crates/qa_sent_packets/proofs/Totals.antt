@@ -53,7 +53,7 @@ pub record IsTotal (d : ℕ) (ps : List SentPacket) (by_space : PerSpace SpacePa
   pub sum : (by_space.initial.in_flight + by_space.handshake.in_flight) + by_space.app.in_flight ≡ sum_by flight_bytes ps
   pub bound : sum_by flight_bytes ps ≤ 4294967295 * max_packet_size
 
-pub total : (d : ℕ) (ps : List SentPacket) (losses : Losses) (by_space : PerSpace SpacePackets) → IsSound d ps losses by_space → IsTotal d ps by_space
+pub total : {strays : PerSpace (List SentPacket)} (d : ℕ) (ps : List SentPacket) (losses : Losses) (by_space : PerSpace SpacePackets) → IsSound d ps losses by_space strays → IsTotal d ps by_space
 total d ps losses by_space sound =
     let spaces = bytes_by_space ps in
     let i = sound.initial.indexed.in_flight in
@@ -136,7 +136,7 @@ entries_fewer d (p ∷ ps) =
     entry_of p.space (is_unacknowledged p.fate) (p.number, d) (unacknowledged_in Initial (suc d) ps) (unacknowledged_in Handshake (suc d) ps) (unacknowledged_in App (suc d) ps) (length ps) (entries_fewer (suc d) ps)
 
 -- what the lengths of the maps add up to
-pub entries_kept : (d : ℕ) (ps : List SentPacket) (losses : Losses) (by_space : PerSpace SpacePackets) → IsSound d ps losses by_space
+pub entries_kept : {strays : PerSpace (List SentPacket)} (d : ℕ) (ps : List SentPacket) (losses : Losses) (by_space : PerSpace SpacePackets) → IsSound d ps losses by_space strays
     → (length by_space.initial.unacknowledged.entries + length by_space.handshake.unacknowledged.entries) + length by_space.app.unacknowledged.entries ≤ length ps
 entries_kept d ps losses by_space sound =
     let fewer = entries_fewer d ps in

@@ -1,5 +1,5 @@
 -- What is asked of one packet that is kept.
-use Rattle.std.specs.Prelude.{ℕ, ◌&&◌, not, Bool, true, false, List, if◌then◌else◌}
+use Rattle.std.specs.Prelude.{ℕ, ◌&&◌, ◌||◌, not, Bool, true, false, List, if◌then◌else◌}
 use Rattle.qa_base.specs.declared.space.Space.{Space}
 use Rattle.qa_base.specs.values.Events.{is_space, is_named}
 use Rattle.qa_sent_packets.specs.declared.fate.Fate.{Fate}
@@ -28,6 +28,15 @@ is_unacknowledged f = true
 -- neither open nor owed
 abbrev pub is_closed : SentPacket → Bool
 is_closed p = not (is_open p.fate) && not (is_owed p.fate)
+
+-- open, and neither ack-eliciting nor in flight: nothing but an acknowledgment or a discard asks
+-- for it
+abbrev pub is_bare : SentPacket → Bool
+is_bare p = is_open p.fate && not (p.eliciting || p.in_flight)
+
+-- of the space, and open
+abbrev pub is_open_in : Space → SentPacket → Bool
+is_open_in s p = is_space s p.space && is_open p.fate
 
 -- of the space, and an acknowledgment would still cover it
 abbrev pub is_waiting : Space → SentPacket → Bool

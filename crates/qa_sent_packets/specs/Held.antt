@@ -7,6 +7,7 @@ use Rattle.qa_base.specs.declared.space.Space.{Space}
 use Rattle.qa_base.specs.declared.space.Space.TheVariants.{Initial, Handshake, App}
 use Rattle.qa_base.specs.values.Events.{is_space}
 use Rattle.qa_base.specs.values.Limits.{max_lines, max_packet_size}
+use Rattle.qa_base.specs.values.PerSpace.{of_space}
 use Rattle.qa_sent_packets.specs.Fates.{flight_bytes_in, is_awaiting, is_flying, is_owed}
 use Rattle.qa_sent_packets.specs.Fates.{is_waiting}
 use Rattle.qa_sent_packets.specs.declared.space_packets.SpacePackets.{SpacePackets}
@@ -14,10 +15,20 @@ use Rattle.qa_base.specs.declared.per_space.PerSpace.{PerSpace}
 use Rattle.qa_sent_packets.specs.declared.packet.SentPacket.{SentPacket}
 use Rattle.qa_sent_packets.specs.declared.packets.Losses.{Losses}
 
--- how many packets were dropped, and those behind them in the order of sending
+-- how many packets were dropped or set aside, those behind them in the order of sending, and those
+-- of each space that were set aside, in the order of their numbers
 pub record Held : Type 0 where
   pub dropped : ℕ
   pub packets : List SentPacket
+  pub strays : PerSpace (List SentPacket)
+
+-- none were set aside
+abbrev pub no_strays : PerSpace (List SentPacket)
+no_strays = record { initial = []; handshake = []; app = [] }
+
+-- so many were
+abbrev pub aside_count : PerSpace (List SentPacket) → ℕ
+aside_count strays = length strays.initial + (length strays.handshake + length strays.app)
 
 -- ---- the order of sending
 
@@ -88,8 +99,13 @@ pub record AreLosses (dropped : ℕ) (packets : List SentPacket) (losses : Losse
 
 -- ---- all of it
 
+-- each packet has a higher number than those of its space that were set aside
+abbrev pub AreAbove : PerSpace (List SentPacket) → List SentPacket → Type 0
+AreAbove strays ps =
+    AllByRecursion (λ p. AllByRecursion (λ q. q.number < p.number) (of_space p.space strays)) ps
+
 pub record IsSound (dropped : ℕ) (packets : List SentPacket) (losses : Losses)
-    (by_space : PerSpace SpacePackets) : Type 0 where
+    (by_space : PerSpace SpacePackets) (strays : PerSpace (List SentPacket)) : Type 0 where
   pub initial : IsSpacePackets Initial dropped packets by_space.initial
   pub handshake : IsSpacePackets Handshake dropped packets by_space.handshake
   pub app : IsSpacePackets App dropped packets by_space.app
@@ -97,6 +113,7 @@ pub record IsSound (dropped : ℕ) (packets : List SentPacket) (losses : Losses)
   pub ordered : AreOrdered packets
   pub sizes : AllByRecursion (λ (p : SentPacket). p.size ≤ max_packet_size) packets
   pub few : dropped + length packets ≤ max_lines
+  pub above : AreAbove strays packets
 
 -- ---- memory
 

@@ -4,6 +4,7 @@ pub mod Fates
 pub mod Held
 pub mod Owing
 pub mod Steps
+pub mod Strays
 pub mod Walks
 pub mod Told
 pub mod BySpace

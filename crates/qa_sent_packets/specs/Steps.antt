@@ -1,5 +1,5 @@
 -- What events make of the packets that are kept.
-use Rattle.std.specs.Prelude.{ℕ, ◌+◌, ◌&&◌, ◌||◌, not, nat_lt, Bool, List, drop, length, take_while}
+use Rattle.std.specs.Prelude.{ℕ, ◌&&◌, ◌||◌, ◌++◌, not, nat_lt, Bool, List, [], filter, map}
 use Rattle.std.specs.Prelude.{Option}
 use Rattle.std.specs.Prelude.{if◌then◌else◌}
 use Rattle.qa_base.specs.declared.space.Space.{Space}
@@ -7,9 +7,11 @@ use Rattle.qa_base.specs.declared.space.Permission.TheVariants.{Window}
 use Rattle.qa_base.specs.machine.Detection.{is_old}
 use Rattle.qa_base.specs.machine.Packets.{Packet, is_below_largest}
 use Rattle.qa_base.specs.machine.Rtt.{Estimate}
+use Rattle.qa_base.specs.declared.per_space.PerSpace.{PerSpace}
 use Rattle.qa_base.specs.values.Events.{is_named}
+use Rattle.qa_base.specs.values.PerSpace.{of_space, with_space}
 use Rattle.qa_base.specs.values.Settings.{Settings, is_may}
-use Rattle.qa_sent_packets.specs.Fates.{is_closed, is_flying, is_owed, is_waiting}
+use Rattle.qa_sent_packets.specs.Fates.{is_flying, is_new, is_owed, is_waiting}
 use Rattle.qa_sent_packets.specs.Held.{Held}
 use Rattle.qa_sent_packets.specs.declared.fate.Fate.{Fate}
 use Rattle.qa_sent_packets.specs.declared.fate.Fate.TheVariants.{Acknowledged, DeclaredLost}
@@ -79,15 +81,31 @@ declared p = if is_owed p.fate then with_fate DeclaredLost p else p
 abbrev pub discarded_in : Space → SentPacket → SentPacket
 discarded_in s p = if is_waiting s p then with_fate Discarded p else p
 
--- ---- dropping
+-- ---- of all that is kept
 
--- how many closed packets stand before all others
-abbrev pub closed_count : List SentPacket → ℕ
-closed_count ps = length (take_while is_closed ps)
+-- of those that were set aside in the space, those are left that these ranges do not name
+abbrev pub unnamed : Space → List (ℕ × ℕ) → PerSpace (List SentPacket) → PerSpace (List SentPacket)
+unnamed s ranges strays =
+    with_space s strays (filter (λ p. not (is_named ranges p.number)) (of_space s strays))
 
--- they are dropped
-abbrev pub trimmed : Held → Held
-trimmed h = record {
-  dropped = h.dropped + closed_count h.packets;
-  packets = drop (closed_count h.packets) h.packets;
+-- an acknowledgment of these ranges in the space
+abbrev pub acknowledged : Space → List (ℕ × ℕ) → Held → Held
+acknowledged s ranges h = record {
+  dropped = h.dropped;
+  packets = map (covered_by s ranges) h.packets;
+  strays = unnamed s ranges h.strays;
 }
+
+-- a discard of the keys of the space
+abbrev pub discarded : Space → Held → Held
+discarded s h = record {
+  dropped = h.dropped;
+  packets = map (discarded_in s) h.packets;
+  strays = with_space s h.strays [];
+}
+
+-- the open packets that an acknowledgment finds, in the order of sending
+abbrev pub newly_found : Space → List (ℕ × ℕ) → Held → List SentPacket
+newly_found s ranges h =
+    filter (λ p. is_named ranges p.number) (of_space s h.strays)
+    ++ filter (is_new s ranges) h.packets

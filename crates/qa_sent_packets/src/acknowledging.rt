@@ -1,5 +1,5 @@
 //! What an acknowledgment covers, and what of that it newly acknowledges.
-ghost use Rattle.std.specs.Prelude.{◌≡◌, ◌≤◌, ◌+◌, [], filter, length, map, reverse, true, OnErr};
+ghost use Rattle.std.specs.Prelude.{◌≡◌, ◌≤◌, ◌+◌, ◌++◌, filter, length, map, reverse, true, OnErr};
 ghost use Rattle.std.specs.Prelude.{min, sum_by, OnOk};
 ghost use Rattle.std.specs.Vec.{vec_capacity, vec_len};
 ghost use Rattle.qa_base.specs.machine.Numbers.{AreRanges};
@@ -35,9 +35,10 @@ pub fn are_falling(spans: &[Span]) -> bool
 }
 
 impl PacketQueue {
-    /// Covers the packets that some span names in what is kept for the space, finds which of them
-    /// were open, and raises the space's `next` to the first that is still in flight. The spans
-    /// rise, taken from the first to the last or, where they fall, from the last to the first.
+    /// Covers the packets that some span names in what is kept for the space, adds those of them
+    /// that were open to what was found, and raises the space's `next` to the first that is still
+    /// in flight. The spans rise, taken from the first to the last or, where they fall, from the
+    /// last to the first.
     /// `AllocError` comes where it is out of memory, and leaves the packets as they were.
     pub(crate) fn acknowledge(
         &mut self,
@@ -53,12 +54,11 @@ impl PacketQueue {
         requires ordered { AreOrdered self.old.packets.items }
         requires apart { AreApart (turned falling spans.now) }
         requires ranges { AreRanges (turned falling spans.now) }
-        requires none { found.old.items ≡ [] }
         ensures dropped { self.new.dropped ≡ self.old.dropped }
         ensures packets { OnOk result (self.new.packets.items
             ≡ map (covered_by space spans.now) self.old.packets.items) }
         ensures new { OnOk result (found.new.items
-            ≡ filter (is_new space spans.now) self.old.packets.items) }
+            ≡ found.old.items ++ filter (is_new space spans.now) self.old.packets.items) }
         ensures err { OnErr result (self.new.packets.items ≡ self.old.packets.items) }
         ensures space_packets { IsSpacePackets space self.new.dropped self.new.packets.items
             space_packets.new }

@@ -158,9 +158,9 @@ impl PacketQueue {
         self.cover_span(space_packets, space, span, found)
     }
 
-    /// Covers the packets that some span names in what is kept for the space, and finds which of
-    /// them were open. The spans rise, taken from the first to the last or, where they fall, from
-    /// the last to the first.
+    /// Covers the packets that some span names in what is kept for the space, and adds those of
+    /// them that were open to what was found. The spans rise, taken from the first to the last or,
+    /// where they fall, from the last to the first.
     pub(crate) fn cover_spans(
         &mut self,
         space_packets: &mut SpacePackets,
@@ -174,7 +174,6 @@ impl PacketQueue {
         requires indexed { IsIndexed space self.old.dropped self.old.packets.items
             space_packets.old }
         requires ordered { AreOrdered self.old.packets.items }
-        requires none { found.old.items ≡ [] }
         requires room { HasRoom (vec_len found.old)
             (vec_capacity found.old) space_packets.old.unacknowledged.entries
             (turned falling spans.now) }
@@ -182,7 +181,8 @@ impl PacketQueue {
         ensures packets { self.new.packets.items
             ≡ map (covered_by space (turned falling spans.now)) self.old.packets.items }
         ensures new { found.new.items
-            ≡ filter (is_new space (turned falling spans.now)) self.old.packets.items }
+            ≡ found.old.items
+            ++ filter (is_new space (turned falling spans.now)) self.old.packets.items }
         ensures indexed { IsIndexed space self.new.dropped self.new.packets.items
             space_packets.new }
         ensures next { space_packets.new.next ≡ space_packets.old.next }

@@ -1,5 +1,6 @@
 //! The packets that were sent, each with what became of it, as a sender keeps them (RFC 9002, A.1):
-//! those since the oldest that is still open or owed, in the order of sending.
+//! those since the oldest that is still open or owed, in the order of sending. An open packet that
+//! only an acknowledgment or a discard asks for may be set aside where it would keep many others.
 #![tactic(auto)]
 
 mod acknowledging;
@@ -20,6 +21,7 @@ mod pushing;
 mod queue;
 mod space_packets;
 mod spare;
+mod strays;
 mod taking;
 mod unacknowledged;
 

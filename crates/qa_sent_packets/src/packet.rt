@@ -28,7 +28,7 @@ pub struct SentPacket {
 impl SentPacket {
     ghost use Rattle.std.specs.Prelude.{◌≡◌};
     ghost use Rattle.qa_sent_packets.specs.Fates.{flight_bytes, is_closed, is_flying, is_open};
-    ghost use Rattle.qa_sent_packets.specs.Fates.{is_owed, is_waiting};
+    ghost use Rattle.qa_sent_packets.specs.Fates.{is_bare, is_owed, is_waiting};
     ghost use Rattle.qa_sent_packets.specs.BySpace.{awaiting_count};
     ghost use Rattle.qa_sent_packets.specs.Walks.{mark_of};
 
@@ -63,6 +63,14 @@ impl SentPacket {
         ensures { result ≡ is_closed self.now }
     {
         !self.is_open() && !self.is_owed()
+    }
+
+    /// Whether it is open, and neither ack-eliciting nor in flight: nothing but an acknowledgment
+    /// or a discard asks for it.
+    pub(crate) fn is_bare(&self) -> bool
+        ensures { result ≡ is_bare self.now }
+    {
+        self.is_open() && !(self.eliciting || self.in_flight)
     }
 
     /// Whether it is of the space, and an acknowledgment would still cover it.

@@ -4,16 +4,18 @@ ghost use Rattle.qa_base.specs.machine.Numbers.{AreRanges, names_between};
 ghost use Rattle.qa_base.specs.values.Events.{is_named};
 ghost use Rattle.qa_base.specs.values.Limits.{max_lines, max_packet_size};
 ghost use Rattle.qa_sent_packets.specs.Covering.{AreApart};
-ghost use Rattle.qa_sent_packets.specs.Dropping.{is_first_closed};
+ghost use Rattle.qa_base.specs.values.PerSpace.{of_space};
+ghost use Rattle.qa_sent_packets.specs.Dropping.{is_first_closed, Sheds};
 ghost use Rattle.qa_sent_packets.specs.Fates.{is_new, is_owed, is_owed_in, flight_bytes};
 ghost use Rattle.qa_sent_packets.specs.Fates.{is_awaiting, is_flying};
 ghost use Rattle.qa_sent_packets.specs.Free.{AreOwedIn, free_numbers, is_free_by, nameable_numbers};
 ghost use Rattle.qa_sent_packets.specs.Free.{taken_by};
-ghost use Rattle.qa_sent_packets.specs.Held.{IsBefore, kept_room, unacknowledged_in};
+ghost use Rattle.qa_sent_packets.specs.Held.{IsBefore, aside_count, kept_room, no_strays};
+ghost use Rattle.qa_sent_packets.specs.Held.{unacknowledged_in};
 ghost use Rattle.qa_sent_packets.specs.Naming.{turned};
 ghost use Rattle.qa_sent_packets.specs.Owing.{IsOwedPart, first_space};
-ghost use Rattle.qa_sent_packets.specs.Steps.{covered_by, found_by, declared, discarded_in};
-ghost use Rattle.qa_sent_packets.specs.Steps.{trimmed};
+ghost use Rattle.qa_sent_packets.specs.Steps.{acknowledged, declared, discarded, found_by};
+ghost use Rattle.qa_sent_packets.specs.Steps.{covered_by, newly_found};
 ghost use Rattle.qa_sent_packets.specs.Walks as walks;
 ghost use Rattle.qa_sent_packets.specs.Walks.{owed_numbers};
 ghost use Rattle.qa_sent_packets.specs.declared.fate.Fate.TheVariants.{Open};
@@ -21,13 +23,14 @@ ghost use Rattle.qa_sent_packets.specs.declared.packet.SentPacket.{SentPacket};
 ghost use Rattle.std.specs.List.{AllByRecursion, list_any};
 ghost use Rattle.std.specs.Vec.{vec_capacity};
 ghost use Rattle.std.specs.Prelude.{◌≡◌, [], ◌≤◌, ◌<◌, ◌+◌, ◌∷◌, ◌++◌, length, OnErr, OnOk, filter};
-ghost use Rattle.std.specs.Prelude.{IfOk, false, Some, map, ◌&&◌, ◌-◌, true, count_by, drop, None};
+ghost use Rattle.std.specs.Prelude.{IfOk, false, Some, map, ◌&&◌, true, count_by, drop, None};
 ghost use Rattle.std.specs.Prelude.{◌*◌, ◌^◌, find, is_none, nat_lt, not, reverse, sum_by};
 ghost use Rattle.std.specs.Option.{option_copied};
 
 use crate::declaring::declare_in;
 use crate::detecting::Thresholds;
 use crate::discarding::discard_all;
+use crate::dropping::let_go;
 use crate::free::FreePackets;
 use crate::named::NamedNumbers;
 use crate::naming::{free_numbers_in, nameable_numbers_in};
@@ -36,6 +39,7 @@ use crate::packet::SentPacket;
 use crate::queue::PacketQueue;
 use crate::space_packets::SpacePackets;
 use crate::spare::Spare;
+use crate::strays::{Strays, may_leave};
 use qa_base::{PacketNumber, PerSpace, Space, Span, Ticks};
 use std::alloc::{AllocError, Global};
 use std::collections::VecDeque;
@@ -81,15 +85,20 @@ impl Losses {
     }
 }
 
+/// Beyond so many packets the queue is crowded where most of them are settled.
+const FEW_PACKETS: usize = 1_024;
+
 /// The packets that were sent since the oldest that is still of use, in the order of sending.
 ///
-/// Contracts see it as that list and how many packets stood before it. How the packets of a space
-/// are found and summed up is its own.
+/// Contracts see it as that list, how many packets stood before it, and those of them that are open
+/// and were set aside. How the packets of a space are found and summed up is its own.
 #[derive(Drop)]
 pub struct SentPackets {
     pub(crate) alloc: Global,
     pub(crate) queue: PacketQueue,
     pub(crate) by_space: PerSpace<SpacePackets>,
+    /// Those that were set aside, so that they keep none of the packets behind them.
+    pub(crate) strays: PerSpace<Strays>,
     pub(crate) losses: Losses,
     /// Memory for what the next acknowledgment finds.
     pub(crate) spare: Spare,
@@ -100,15 +109,20 @@ impl Model for SentPackets {
 
     ghost Value = { Held };
 
-    ghost view = { λ s. record { dropped = s.queue.dropped; packets = s.queue.packets.items } };
+    ghost view = { λ s. record {
+      dropped = s.queue.dropped;
+      packets = s.queue.packets.items;
+      strays = s.strays;
+    } };
 
-    ghost invariant = { λ s. IsSound s.queue.dropped s.queue.packets.items s.losses s.by_space };
+    ghost invariant = { λ s. IsSound s.queue.dropped s.queue.packets.items s.losses s.by_space
+        s.strays };
 }
 
 impl SentPackets {
     /// No packets. Takes no memory.
     pub fn new(alloc: Global) -> SentPackets
-        ensures { result ≡ record { dropped = 0; packets = [] } }
+        ensures { result ≡ record { dropped = 0; packets = []; strays = no_strays } }
     {
         SentPackets {
             alloc,
@@ -121,6 +135,11 @@ impl SentPackets {
                 handshake: SpacePackets::new(alloc),
                 app: SpacePackets::new(alloc),
             },
+            strays: PerSpace {
+                initial: Strays::new(alloc),
+                handshake: Strays::new(alloc),
+                app: Strays::new(alloc),
+            },
             losses: Losses {
                 space: Space::Initial,
                 count: 0,
@@ -132,15 +151,22 @@ impl SentPackets {
     }
 
     /// Keeps a packet that was just sent: it is open, its size is at most 65527 bytes, each packet
-    /// kept was sent before it, and fewer than 4,294,967,295 were ever kept. `AllocError` comes
-    /// where it is out of memory, and leaves the packets as they were.
+    /// kept was sent before it, also those of its space that were set aside, and fewer than
+    /// 4,294,967,295 were ever kept. `AllocError` comes where it is out of memory, and leaves the
+    /// packets as they were.
     pub fn push(&mut self, packet: SentPacket) -> Result<(), AllocError>
         requires open { packet.fate ≡ Open }
         requires small { packet.size ≤ max_packet_size }
         requires ordered { AllByRecursion (λ q. IsBefore packet q) self.old.packets }
+        requires aside { AllByRecursion (λ q. q.number < packet.number)
+            (of_space packet.space self.old.strays) }
         requires few { self.old.dropped + length self.old.packets < max_lines }
         ensures ok { OnOk result (self.new
-            ≡ record { dropped = self.old.dropped; packets = self.old.packets ++ packet ∷ [] }) }
+            ≡ record {
+              dropped = self.old.dropped;
+              packets = self.old.packets ++ packet ∷ [];
+              strays = self.old.strays;
+            }) }
         ensures err { OnErr result (self.new ≡ self.old) }
     {
         let space_packets = self.by_space.of_mut(packet.space);
@@ -168,14 +194,37 @@ impl SentPackets {
         requires apart { AreApart (turned falling spans.now) }
         requires ranges { AreRanges (turned falling spans.now) }
         requires none { found.old.items ≡ [] }
+        ensures ok { OnOk result (self.new ≡ acknowledged space spans.now self.old) }
+        ensures found { OnOk result (found.new.items ≡ newly_found space spans.now self.old) }
+        ensures err { OnErr result (self.new ≡ self.old) }
+    {
+        self.copy_strays(space, spans, falling, found)?;
+        let copied = found.len();
+        self.acknowledge_queue(space, spans, falling, found)?;
+        self.forget_strays(space, &found[..copied]);
+        Ok(())
+    }
+
+    /// The same in the queue, where what is found is added to what was found before.
+    fn acknowledge_queue(
+        &mut self,
+        space: Space,
+        spans: &[Span],
+        falling: bool,
+        found: &mut Vec<SentPacket>,
+    ) -> Result<(), AllocError>
+        requires settled { AllByRecursion (λ p. is_owed p.fate ≡ false) self.old.packets }
+        requires apart { AreApart (turned falling spans.now) }
+        requires ranges { AreRanges (turned falling spans.now) }
         ensures ok { OnOk result
             (self.new
             ≡ record {
               dropped = self.old.dropped;
               packets = map (covered_by space spans.now) self.old.packets;
+              strays = self.old.strays;
             }) }
         ensures found { OnOk result (found.new.items
-            ≡ filter (is_new space spans.now) self.old.packets) }
+            ≡ found.old.items ++ filter (is_new space spans.now) self.old.packets) }
         ensures err { OnErr result (self.new ≡ self.old) }
     {
         let space_packets = self.by_space.of_mut(space);
@@ -213,6 +262,7 @@ impl SentPackets {
         ensures { self.new ≡ record {
           dropped = self.old.dropped;
           packets = map (found_by space thresholds.entry.now) self.old.packets;
+          strays = self.old.strays;
         } }
     {
         let space_packets = self.by_space.of_mut(space);
@@ -355,6 +405,7 @@ impl SentPackets {
             ≡ record {
               dropped = self.old.dropped;
               packets = map (taken_by free spans.now) self.old.packets;
+              strays = self.old.strays;
             } }
         ensures any { result
             ≡ list_any (λ p. is_free_by free p && is_named spans.now p.number) self.old.packets }
@@ -375,6 +426,7 @@ impl SentPackets {
         ensures { self.new ≡ record {
           dropped = self.old.dropped;
           packets = map declared self.old.packets;
+          strays = self.old.strays;
         } }
     {
         let part = self.owed_part();
@@ -390,11 +442,9 @@ impl SentPackets {
     /// Walks along all packets that are kept.
     pub fn discard(&mut self, space: Space)
         requires settled { AllByRecursion (λ p. is_owed p.fate ≡ false) self.old.packets }
-        ensures { self.new ≡ record {
-          dropped = self.old.dropped;
-          packets = map (discarded_in space) self.old.packets;
-        } }
+        ensures { self.new ≡ discarded space self.old }
     {
+        self.strays.of_mut(space).clear();
         discard_all(&mut self.queue.packets, space);
         let end = self.queue.dropped + self.queue.packets.len() as u64;
         let space_packets = self.by_space.of_mut(space);
@@ -402,24 +452,28 @@ impl SentPackets {
     }
 
     /// Drops the packets before the oldest that is still open or owed. Each packet is dropped once.
+    ///
+    /// Where there are more than 1,024 packets, most of them settled, an open one is set aside if
+    /// it is the first and neither ack-eliciting nor in flight: it would keep all others until it
+    /// is acknowledged, and it may never be. Where there is no memory to set it aside it stays.
     #[inline(always)]
     pub fn drop_closed(&mut self)
-        ensures { self.new ≡ trimmed self.old }
+        ensures sheds { Sheds self.old self.new }
+        ensures trimmed { is_first_closed self.new.packets ≡ false }
     {
-        // Behind most events there is none.
-        if self.is_first_closed() {
+        // Behind most events there is none, and few are kept.
+        if self.is_first_closed() || FEW_PACKETS < self.queue.packets.len() {
             self.drop_front();
         }
     }
 
-    /// Drops the first packets that are neither open nor owed.
+    /// Drops the first packets or sets them aside, until one has to stay.
     #[inline(never)]
     fn drop_front(&mut self)
-        ensures { self.new ≡ trimmed self.old }
+        ensures sheds { Sheds self.old self.new }
+        ensures trimmed { is_first_closed self.new.packets ≡ false }
     {
-        while self.is_first_closed() {
-            self.drop_first();
-        }
+        while self.drop_first() {}
     }
 
     /// Whether there is a packet, and the first is neither open nor owed.
@@ -433,26 +487,43 @@ impl SentPackets {
         }
     }
 
-    /// Drops the first packet.
-    fn drop_first(&mut self)
-        requires { is_first_closed self.old.packets ≡ true }
-        ensures { self.new ≡ record {
-          dropped = self.old.dropped + 1;
-          packets = drop 1 self.old.packets;
-        } }
+    /// Whether there are many packets, of which less than half would still be acknowledged.
+    fn is_crowded(&self) -> bool {
+        let count = self.queue.packets.len();
+        FEW_PACKETS < count && self.entry_count() < count as u64 / 2
+    }
+
+    /// Drops the first packet or sets it aside, unless there is none or it has to stay. Whether it
+    /// did.
+    fn drop_first(&mut self) -> bool
+        ensures sheds { result ≡ true → Sheds self.old self.new }
+        ensures fewer { result ≡ true → length self.new.packets < length self.old.packets }
+        ensures same { result ≡ false → self.new ≡ self.old }
+        ensures closed { result ≡ false → is_first_closed self.old.packets ≡ false }
     {
-        let packet = self.queue.packets[0];
-        self.queue.packets.pop_front();
-        self.queue.dropped += 1;
-        self.by_space
-            .initial
-            .drop_first(Space::Initial, &packet, self.queue.dropped);
-        self.by_space
-            .handshake
-            .drop_first(Space::Handshake, &packet, self.queue.dropped);
-        self.by_space
-            .app
-            .drop_first(Space::App, &packet, self.queue.dropped);
+        let crowded = self.is_crowded();
+        match self.queue.packets.front() {
+            None => false,
+            Some(first) => {
+                let packet = *first;
+                self.shed_first(&packet, crowded)
+            }
+        }
+    }
+
+    /// The same, where there is one, by whether the queue is crowded.
+    fn shed_first(&mut self, packet: &SentPacket, crowded: bool) -> bool
+        requires { self.old.packets ≡ packet.now ∷ drop 1 self.old.packets }
+        ensures sheds { result ≡ true → Sheds self.old self.new }
+        ensures fewer { result ≡ true → length self.new.packets < length self.old.packets }
+        ensures same { result ≡ false → self.new ≡ self.old }
+        ensures closed { result ≡ false → is_first_closed self.old.packets ≡ false }
+    {
+        if !may_leave(&mut self.strays, packet, crowded) {
+            return false;
+        }
+        let_go(&mut self.queue, &mut self.by_space);
+        true
     }
 
     /// The bytes of the packets of all spaces that are open and in flight (RFC 9002, B.2).
@@ -518,19 +589,42 @@ impl SentPackets {
         !self.awaits(space) && self.first_flying_ref(space).is_none()
     }
 
-    /// How much is kept: the packets, and the entries by which an acknowledgment finds them. It is
-    /// the sum of the lengths of the collections, and at most twice the number of packets.
-    pub fn kept_count(&self) -> u64
-        ensures count { result ≡ length self.now.packets
-            + (length (unacknowledged_in Initial self.now.dropped self.now.packets)
+    /// How many entries there are by which acknowledgments find packets.
+    fn entry_count(&self) -> u64
+        ensures count { result
+            ≡ length (unacknowledged_in Initial self.now.dropped self.now.packets)
             + length (unacknowledged_in Handshake self.now.dropped self.now.packets)
-            + length (unacknowledged_in App self.now.dropped self.now.packets)) }
-        ensures bound { result ≤ 2 * length self.now.packets }
+            + length (unacknowledged_in App self.now.dropped self.now.packets) }
+        ensures bound { result ≤ length self.now.packets }
     {
         let by_space = &self.by_space;
         let entries = by_space.initial.unacknowledged.len()
             + by_space.handshake.unacknowledged.len()
             + by_space.app.unacknowledged.len();
-        (self.queue.packets.len() + entries) as u64
+        entries as u64
+    }
+
+    /// How many were set aside.
+    fn aside_count(&self) -> u128
+        ensures count { result ≡ aside_count self.now.strays }
+        ensures small { result < 2 ^ 65 }
+    {
+        u128::from(self.strays.initial.len() as u64)
+            + u128::from(self.strays.handshake.len() as u64)
+            + u128::from(self.strays.app.len() as u64)
+    }
+
+    /// How much is kept: the packets, the entries by which an acknowledgment finds them, and the
+    /// packets that were set aside. It is the sum of the lengths of the collections.
+    pub fn kept_count(&self) -> u128
+        ensures count { result ≡ length self.now.packets
+            + (length (unacknowledged_in Initial self.now.dropped self.now.packets)
+            + length (unacknowledged_in Handshake self.now.dropped self.now.packets)
+            + length (unacknowledged_in App self.now.dropped self.now.packets))
+            + aside_count self.now.strays }
+        ensures bound { result ≤ 2 * length self.now.packets + aside_count self.now.strays }
+        ensures small { result < 2 ^ 66 }
+    {
+        u128::from(self.queue.packets.len() as u64 + self.entry_count()) + self.aside_count()
     }
 }

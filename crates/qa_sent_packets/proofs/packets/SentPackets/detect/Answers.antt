@@ -5,7 +5,7 @@ use Rattle.qa_base.specs.values.PerSpace.{of_space}
 use Rattle.qa_sent_packets.specs.Steps.{found_by}
 use Rattle.qa_sent_packets.proofs.Alike.{space_packets_alike, ordered_same, sizes_same}
 use Rattle.qa_sent_packets.proofs.Detected.{found_alike, found_same}
-use Rattle.qa_sent_packets.proofs.Sound.{space_packets_sound, sound_with}
+use Rattle.qa_sent_packets.proofs.Sound.{above_same, space_packets_sound, sound_with}
 use Rattle.qa_sent_packets.proofs.packets.SentPackets.detect.Goals as goal
 
 pub detect-self-inside-requires-clause-space_packets : goal.detect-self-inside-requires-clause-space_packets
@@ -30,5 +30,6 @@ invariant_of-self c =
       ordered = ordered_same f (found_same s l) ps c.self.invariant.ordered;
       sizes = sizes_same max_packet_size f (found_same s l) ps c.self.invariant.sizes;
       few = omega (arith, few, long);
+      above = above_same before.strays f (found_same s l) ps c.self.invariant.above;
     }) (rw (found.ensures.packets, found.ensures.dropped) at found.ensures.space_packets)
     (λ t out. space_packets_alike t f (found_alike s l t out) d ps (of_space t before.by_space) (space_packets_sound d ps before.losses before.by_space c.self.invariant t)))

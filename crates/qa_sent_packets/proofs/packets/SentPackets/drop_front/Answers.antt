@@ -1,11 +1,8 @@
-use Rattle.std.proofs.Common.{◌≡◌, ◌∙◌, true, sym, ap}
-use Rattle.qa_sent_packets.specs.Dropping.{is_first_closed}
-use Rattle.qa_sent_packets.specs.Steps.{trimmed}
-use Rattle.qa_sent_packets.proofs.Dropped.{trimmed_more}
+use Rattle.qa_sent_packets.proofs.Dropped.{sheds_more, sheds_none}
 use Rattle.qa_sent_packets.proofs.packets.SentPackets.drop_front.Goals as goal
 
-pub loop-self-preserved : goal.loop-self-preserved
-loop-self-preserved c =
-    let held = c.loop-self.self in
-    let closed : is_first_closed held.packets ≡ true = sym c.is_first_closed.ensures ∙ c.loop-self-test.true in
-    ap trimmed c.drop_first.ensures ∙ (trimmed_more held.dropped held.packets closed ∙ c.loop-self.invariant)
+pub loop-init : goal.loop-init
+loop-init c = sheds_none c.args.self.now
+
+pub loop-preserved : goal.loop-preserved
+loop-preserved c = sheds_more c.args.self.now c.loop.self c.drop_first.new.self c.loop.invariant (c.drop_first.ensures.sheds c.loop-test.true)

@@ -11,4 +11,4 @@ pub invariant_of-self : goal.invariant_of-self
 invariant_of-self c =
     let before = c.self.inside in
     rw c.add.ensures.dropped (sound_added c.add.result before.queue.dropped before.queue.packets.items _ c.args.packet before.losses before.by_space c.add.new.space_packets c.requires.open c.requires.small
-    (rw (← c.self.view_is) at c.requires.ordered) (rw (← c.self.view_is) at c.requires.few) c.self.invariant c.add.ensures.ok c.add.ensures.err (rw c.add.ensures.dropped at c.add.ensures.space_packets))
+    (rw (← c.self.view_is) at c.requires.ordered) (rw (← c.self.view_is) at c.requires.few) (rw (← c.self.view_is) at c.requires.aside) c.self.invariant c.add.ensures.ok c.add.ensures.err (rw c.add.ensures.dropped at c.add.ensures.space_packets))

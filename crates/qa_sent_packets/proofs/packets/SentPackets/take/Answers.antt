@@ -9,7 +9,7 @@ use Rattle.qa_sent_packets.specs.Free.{is_free_by, taken_by}
 use Rattle.qa_sent_packets.specs.Held.{Held}
 use Rattle.qa_sent_packets.proofs.Alike.{space_packets_alike, ordered_same, sizes_same}
 use Rattle.qa_sent_packets.proofs.Taken.{any_taken, taken_alike, taken_same}
-use Rattle.qa_sent_packets.proofs.Sound.{space_packets_sound, sound_with}
+use Rattle.qa_sent_packets.proofs.Sound.{above_same, space_packets_sound, sound_with}
 use Rattle.qa_sent_packets.proofs.packets.SentPackets.take.Goals as goal
 
 pub take-self-inside-requires-clause-space_packets : goal.take-self-inside-requires-clause-space_packets
@@ -33,6 +33,7 @@ invariant_of-self c =
       ordered = ordered_same f (taken_same c.args.free c.args.spans.now) ps c.self.invariant.ordered;
       sizes = sizes_same max_packet_size f (taken_same c.args.free c.args.spans.now) ps c.self.invariant.sizes;
       few = omega (arith, long, few);
+      above = above_same before.strays f (taken_same c.args.free c.args.spans.now) ps c.self.invariant.above;
     }) (rw (took.ensures.packets, took.ensures.dropped) at took.ensures.space_packets)
     (λ t out. space_packets_alike t f (taken_alike c.args.free c.args.spans.now t out) d ps (of_space t before.by_space) (space_packets_sound d ps before.losses before.by_space c.self.invariant t)))
 

@@ -1,4 +1,5 @@
-use Rattle.std.proofs.Common.{length, ap, arith, sym, ◌∙◌}
+use Rattle.std.proofs.Common.{◌∙◌, ◌++◌, filter, length, ap, arith, sym}
+use Rattle.qa_sent_packets.specs.Fates.{is_new}
 use Rattle.qa_sent_packets.specs.Naming.{turned}
 use Rattle.qa_sent_packets.proofs.Acknowledged.{covered_behind, covered_named}
 use Rattle.qa_sent_packets.proofs.Entries.{fewer_entries}
@@ -24,5 +25,8 @@ returns-clause-packets c =
 
 pub returns-clause-new : goal.returns-clause-new
 returns-clause-new c =
+    let ps = c.args.self.now.packets.items in
     c.cover_spans.ensures.new
-    ∙ new_alike c.args.space (turned c.args.falling c.args.spans.now) c.args.spans.now c.args.self.now.packets.items (λ n. sym (named_turned c.args.falling c.args.spans.now n))
+    ∙ (ap (λ found. found ++ filter (is_new c.args.space (turned c.args.falling c.args.spans.now)) ps) c.in_ok-make_ready.ensures.items
+    ∙ ap (λ qs. c.args.found.now.items ++ qs)
+    (new_alike c.args.space (turned c.args.falling c.args.spans.now) c.args.spans.now ps (λ n. sym (named_turned c.args.falling c.args.spans.now n))))

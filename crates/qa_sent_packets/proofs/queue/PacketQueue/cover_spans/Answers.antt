@@ -1,4 +1,4 @@
-use Rattle.std.proofs.Common.{◌≡◌, ◌≤◌, ◌<◌, ◌∙◌, ◌+◌, ℕ, List, [], ◌∷◌, ◌++◌, drop, filter, length, take, sym, refl, ap, arith, subst}
+use Rattle.std.proofs.Common.{◌≡◌, ◌≤◌, ◌<◌, ◌∙◌, ◌+◌, ℕ, List, [], ◌∷◌, ◌++◌, append_assoc, drop, filter, length, take, sym, refl, ap, arith, subst}
 use Rattle.std.specs.List.{AllByRecursion}
 use Rattle.std.specs.Vec.{vec_capacity, vec_len}
 use Rattle.qa_sent_packets.specs.Covering.{HasRoom, NamesNone, is_new_in}
@@ -7,7 +7,7 @@ use Rattle.qa_sent_packets.specs.Held.{unacknowledged_in}
 use Rattle.qa_sent_packets.specs.Naming.{turned}
 use Rattle.qa_sent_packets.proofs.Acknowledged.{cover_next, take_more}
 use Rattle.qa_sent_packets.proofs.Counted.{named_behind, room_here, room_left}
-use Rattle.qa_sent_packets.proofs.Newly.{new_apart, next_above}
+use Rattle.qa_sent_packets.proofs.Newly.{new_apart, next_above, with_none}
 use Rattle.qa_sent_packets.proofs.Opened.{ends_below, new_more}
 use Rattle.qa_sent_packets.proofs.Parts.{each_more, each_weaker}
 use Rattle.qa_sent_packets.proofs.Passing.{covers_none, finds_none}
@@ -25,7 +25,7 @@ loop-at-init c =
       dropped = refl;
       indexed = c.requires.indexed;
       packets = sym (covers_none s c.args.self.now.dropped front ps none);
-      new = c.requires.none ∙ sym (finds_none s c.args.self.now.dropped front ps none);
+      new = sym (with_none c.args.found.now.items (filter (is_new s front) ps) (finds_none s c.args.self.now.dropped front ps none));
       forward = each_weaker (NamesNone (unacknowledged_in s c.args.self.now.dropped ps)) (λ (r : ℕ × ℕ). r.0 ≤ r.1) (λ r names. names.0) front none;
       clear = λ r within is. clear_all r.0 c.args.space_packets.now.unacknowledged.entries;
       room = (let fewer = named_behind c.passed-passed.result c.args.space_packets.now.unacknowledged.entries (turned c.args.falling c.args.spans.now) in let fits = c.requires.room in omega (arith, fewer, fits));
@@ -63,10 +63,12 @@ loop-at-preserved c =
       packets = cover_next s spans i span.0 span.1 span ps c.loop-at.self.packets.items c.pass_span-least.new.self.packets.items within is refl refl c.loop-at.invariant.packets c.pass_span-least.ensures.packets;
       new = c.pass_span-least.ensures.new
           ∙ (ap (λ xs. xs ++ filter (is_new_in s span.0 span.1) c.loop-at.self.packets.items) c.loop-at.invariant.new
-          ∙ (ap (λ qs. filter (is_new s (take i spans)) ps ++ filter (is_new_in s span.0 span.1) qs) c.loop-at.invariant.packets
+          ∙ (append_assoc c.args.found.now.items (filter (is_new s (take i spans)) ps) (filter (is_new_in s span.0 span.1) c.loop-at.self.packets.items)
+          ∙ ap (λ qs. c.args.found.now.items ++ qs)
+          (ap (λ qs. filter (is_new s (take i spans)) ps ++ filter (is_new_in s span.0 span.1) qs) c.loop-at.invariant.packets
           ∙ (ap (λ qs. filter (is_new s (take i spans)) ps ++ qs) (new_apart s span.0 span.1 (take i spans) ps below)
           ∙ (new_more s (take i spans) span ps below c.requires.ordered
-          ∙ ap (λ rs. filter (is_new s rs) ps) (sym step)))));
+          ∙ ap (λ rs. filter (is_new s rs) ps) (sym step))))));
       forward = each_more (λ (r : ℕ × ℕ). r.0 ≤ r.1) spans i span within is c.pass_span-least.ensures.order c.loop-at.invariant.forward;
       clear = λ r inside at. c.pass_span-least.ensures.clear r.0 (next_above spans i span r c.requires.apart inside is at);
       room = (
