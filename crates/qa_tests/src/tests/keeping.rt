@@ -223,3 +223,26 @@ fn what_is_open_is_kept(rt: HostRuntime) {
     let kept = [Some(18), Some(2), Some(1), Some(1_000_001)];
     assert_eq!(rt; kept_of_histories(rt.alloc()), Some(kept));
 }
+
+/// After a packet that is not in flight, others are sent and acknowledged one by one, and it is
+/// acknowledged at the end. How much a ledger keeps before that and after it.
+fn kept_after_a_stray(alloc: Global) -> Option<[Option<u128>; 2]> {
+    let mut history = server(alloc)?;
+    history.take(packet(0, 0, false, false));
+    for n in 1..ACKNOWLEDGED {
+        history.take(sent(2 * n, n));
+        history.take(ack(alloc, 2 * n + 1, n));
+    }
+    let kept = history.kept();
+    Some([
+        kept,
+        kept_after(&mut history, ack(alloc, 2 * ACKNOWLEDGED, 0)),
+    ])
+}
+
+/// A packet that nothing but an acknowledgment asks for keeps itself, and not those after it.
+#[test]
+fn what_is_set_aside_keeps_no_others(rt: HostRuntime) {
+    let kept = [Some(2), Some(1)];
+    assert_eq!(rt; kept_after_a_stray(rt.alloc()), Some(kept));
+}
