@@ -1,5 +1,6 @@
 //! The head of a log of many texts: how its records are read.
-ghost use Rattle.std.specs.Prelude.{◌≡◌, ◌≢◌, Err, Some, None, Option, option_map};
+ghost use Rattle.std.specs.Prelude.{◌≡◌, ◌≢◌, true, Err, Some, None, Option, option_map};
+ghost use Rattle.std.specs.Str.{is_utf8};
 ghost use Rattle.json.specs.Json.{Json, document};
 ghost use Rattle.json.specs.Find.{BeginsWith, Finds};
 ghost use Rattle.qa_qlog.specs.Heads as heads;
@@ -89,9 +90,10 @@ pub struct Head {
 }
 
 /// The head that the first text of a log is. What its `trace` says counts for more than what is
-/// beside that.
+/// beside that. Only a text that is UTF-8 takes memory.
 pub fn head_of(alloc: Global, text: &[u8]) -> Result<Head, NoHead>
-    ensures { result ≢ Err NoHead.OutOfMemory → result ≡ heads.head_of text.now }
+    ensures value { result ≢ Err NoHead.OutOfMemory → result ≡ heads.head_of text.now }
+    ensures memory { result ≡ Err NoHead.OutOfMemory → is_utf8 text.now ≡ true }
 {
     match str::from_utf8(text) {
         Ok(text) => by_text(alloc, text),

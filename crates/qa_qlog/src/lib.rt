@@ -1,6 +1,6 @@
 //! What a qlog is and what it has: its kind by its beginning, its texts out of bytes that come in
-//! parts, each with the number of its line, and what the texts say: how records are read, and of each
-//! its name, its time and its data.
+//! parts, each with the number of its line, how its records are read, and the name, the time and
+//! the data of a record.
 #![tactic(auto)]
 
 mod fields;
