@@ -64,7 +64,7 @@ time_at fields j =
     if is_given (at_key fields (codes "time") j) then at_key fields (codes "time") j
     else named_at fields j
 
--- a number, which may be in a string
+-- a number, which may be in a string; no other value is a time, nor are true and false
 abbrev pub written : Json → List ℕ
 written j = unwrap_or (option_or (as_number j) (as_str j)) []
 
