@@ -8,10 +8,10 @@ use Rattle.memchr.specs.Find.{IsFirstByte, is_byte}
 use Rattle.json.specs.Json.{Json, document}
 use Rattle.qa_qlog.specs.declared.kinds.Kind.TheVariants.{TextSequence, Document}
 use Rattle.qa_qlog.specs.Texts.{text_limit, line_feed}
-use Rattle.qa_qlog.specs.Kinds.{first_line, is_netlog, has, is_header, by_json, by_line, unmarked}
+use Rattle.qa_qlog.specs.Kinds.{first_line, is_netlog, has, is_header, by_json, by_line, is_text, unmarked, is_read}
 use Rattle.std.specs.Io.BufRead.{take_through}
 
-false_unless : (b : Bool) → (b ≡ true → ⊥) → b ≡ false
+pub false_unless : (b : Bool) → (b ≡ true → ⊥) → b ≡ false
 false_unless true never = absurd (never refl)
 false_unless false never = refl
 
@@ -61,6 +61,11 @@ no_text_line line differs never =
     let t : is_utf8 line ≡ false = false_unless (is_utf8 line) (λ h. never (IsUtf8-from_is_utf8 line h)) in
     rw (differs, t) refl
 
+pub text_read : (line : List ℕ) → is_netlog line ≡ false → IsUtf8 line → is_text line ≡ true
+text_read line differs utf8 =
+    let t : is_utf8 line ≡ true = is_utf8-from_IsUtf8 line utf8 in
+    rw (differs, t) refl
+
 -- ---- what bytes are
 
 pub sequence : (bytes : List ℕ) → 0 < length bytes → get_or bytes 0 0 ≡ 30 → Ok TextSequence ≡ unmarked None bytes
@@ -74,6 +79,12 @@ other [] some is = absurd (omega arith)
 other (b ∷ bs) some is =
     let t : (b == 30) ≡ false = ne_eqb b 30 is in
     rw t refl
+
+pub other_read : (bytes : List ℕ) → 0 < length bytes → (get_or bytes 0 0 ≡ 30 → ⊥) → is_text (first_line bytes) ≡ true → is_read None bytes ≡ true
+other_read [] some is text = absurd (omega arith)
+other_read (b ∷ bs) some is text =
+    let t : (b == 30) ≡ false = ne_eqb b 30 is in
+    rw t text
 
 -- ---- what a header is
 

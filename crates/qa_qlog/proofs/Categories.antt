@@ -1,5 +1,5 @@
 -- What follows the last colon of a name.
-use Rattle.std.proofs.Common.{◌≡◌, ◌∙◌, ◌+◌, ◌<◌, ◌≤◌, ◌∷◌, ◌==◌, ◌||◌, ℕ, zero, suc, List, [], Bool, true, false, None, Some, length, take, drop, get_or, refl, arith, add-one, take_all, length-drop, ◌-◌}
+use Rattle.std.proofs.Common.{◌≡◌, ◌∙◌, ◌+◌, ◌<◌, ◌≤◌, ◌∷◌, ◌||◌, ℕ, zero, suc, List, [], Bool, true, false, None, Some, length, take, drop, get_or, refl, arith, add-one, take_all, length-drop, ◌-◌}
 use Rattle.std.specs.List.{list_any}
 use Rattle.memchr.specs.Find.{IsLastByte, is_byte}
 use Rattle.qa_qlog.specs.Names.{is_colon, without_category}

@@ -1,6 +1,6 @@
 -- The value of digits, and the whole part of a number by its first digits.
-use Rattle.std.proofs.Common.{◌≡◌, ◌∙◌, ◌⊎◌, inl, inr, ◌+◌, ◌-◌, ◌*◌, ◌/◌, ◌^◌, ◌<◌, ◌≤◌, ◌++◌, ◌∷◌, ◌&&◌, ℕ, zero, suc, List, [], length, take, drop, get_or, min, Bool, true, false, refl, sym, ap, ap₂, arith, pow-suc, pow-add, add-one, mul-lt-mul_of_pos_right, lt_of_lt_of_le, take_all, nat_le, le-leb, leb-true, leb-false}
-use Rattle.std.proofs.lemmas.Bool.{cases_lt, cases_Bool, lt-leb}
+use Rattle.std.proofs.Common.{◌≡◌, ◌∙◌, ◌⊎◌, inl, inr, ◌+◌, ◌-◌, ◌*◌, ◌/◌, ◌^◌, ◌<◌, ◌≤◌, ◌++◌, ◌∷◌, ◌&&◌, ℕ, zero, suc, List, [], length, take, drop, get_or, min, Bool, true, false, refl, sym, ap, ap₂, arith, pow-suc, pow-add, mul-lt-mul_of_pos_right, lt_of_lt_of_le, take_all, nat_le, le-leb}
+use Rattle.std.proofs.lemmas.Bool.{cases_lt, lt-leb}
 use Rattle.std.proofs.lemmas.Nat.{div-mul-add}
 use Rattle.std.proofs.Math.Nat.{pow-le-pow_right}
 use Rattle.std.proofs.Common.{lit<}

@@ -3,5 +3,7 @@ pub mod Categories
 pub mod Digits
 pub mod Finding
 pub mod Laws
+pub mod Named
 pub mod Pieces
 pub mod Sizes
+pub mod Values

@@ -1,5 +1,5 @@
 -- How many nanoseconds a number is, by its first digits.
-use Rattle.std.proofs.Common.{◌≡◌, ◌∙◌, ◌+◌, ◌-◌, ◌*◌, ◌^◌, ◌<◌, ◌++◌, ◌&&◌, ℕ, Bool, true, false, min, length, take, refl, sym, ap, ap₂, arith, length-append, cond, nat_le, leb-true}
+use Rattle.std.proofs.Common.{◌≡◌, ◌∙◌, ◌+◌, ◌-◌, ◌*◌, ◌^◌, ◌<◌, ℕ, Bool, true, false, min, length, take, sym, ap, ap₂, arith, length-append, cond, nat_le, leb-true}
 use Rattle.std.proofs.lemmas.Bool.{and_parts}
 use Rattle.std.proofs.lemmas.List.{take_min}
 use Rattle.std.specs.Str.Parse.{AllDigits, digits_value}

@@ -86,6 +86,9 @@ json_of bytes = if is_utf8 bytes then document bytes else None
 abbrev pub by_line : List ℕ → Result Kind NoLog
 by_line line = if is_netlog line then Ok Netlog else by_json (json_of line)
 
+abbrev pub is_text : List ℕ → Bool
+is_text line = not (is_netlog line) && is_utf8 line
+
 abbrev pub unmarked : Option NoLog → List ℕ → Result Kind NoLog
 unmarked (Some fault) bytes = Err fault
 unmarked None [] = Err no.Empty
@@ -94,3 +97,9 @@ unmarked None (b ∷ bs) =
 
 abbrev pub kind_of : List ℕ → Result Kind NoLog
 kind_of bytes = unmarked (marked marks bytes) bytes
+
+-- the first line is read as JSON, since neither the first bytes nor its beginning say what it is
+abbrev pub is_read : Option NoLog → List ℕ → Bool
+is_read (Some fault) bytes = false
+is_read None [] = false
+is_read None (b ∷ bs) = not (b == record_separator) && is_text (first_line (b ∷ bs))

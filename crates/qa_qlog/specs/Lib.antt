@@ -1,6 +1,10 @@
+pub mod Heads
 pub mod Kinds
 pub mod Marks
 pub mod Names
+pub mod Objects
+pub mod Records
+pub mod Says
 pub mod Standing
 pub mod Taking
 pub mod Texts

@@ -4,42 +4,35 @@ use Rattle.std.specs.Prelude.{if◌then◌else◌}
 use Rattle.std.specs.List.{list_any}
 use Rattle.std.specs.Option.{option_or}
 use Rattle.qa_qlog.specs.declared.names.EventName.{EventName}
-use Rattle.qa_qlog.specs.declared.names.EventName.TheVariants.{PacketSent, PacketReceived}
-use Rattle.qa_qlog.specs.declared.names.EventName.TheVariants.{PacketLost, PacketsLost}
-use Rattle.qa_qlog.specs.declared.names.EventName.TheVariants.{MetricsUpdated}
-use Rattle.qa_qlog.specs.declared.names.EventName.TheVariants.{RecoveryParametersSet}
-use Rattle.qa_qlog.specs.declared.names.EventName.TheVariants.{CongestionStateUpdated}
-use Rattle.qa_qlog.specs.declared.names.EventName.TheVariants.{LossTimerUpdated, KeyUpdated}
-use Rattle.qa_qlog.specs.declared.names.EventName.TheVariants.{KeyRetired, KeyDiscarded}
-use Rattle.qa_qlog.specs.declared.names.EventName.TheVariants.{ParametersSet}
+use Rattle.qa_qlog.specs.declared.names.EventName.TheVariants as event
 
 abbrev pub of_packets : List (List ℕ × EventName)
 of_packets =
-    (codes "packet_sent", PacketSent)
-    ∷ (codes "packet_received", PacketReceived)
-    ∷ (codes "packet_lost", PacketLost)
-    ∷ (codes "packets_lost", PacketsLost)
+    (codes "packet_sent", event.PacketSent)
+    ∷ (codes "packet_received", event.PacketReceived)
+    ∷ (codes "packet_lost", event.PacketLost)
+    ∷ (codes "packets_lost", event.PacketsLost)
     ∷ []
 
 -- drafts have two more names for metrics, and one more for a timer
 abbrev pub of_recovery : List (List ℕ × EventName)
 of_recovery =
-    (codes "metrics_updated", MetricsUpdated)
-    ∷ (codes "recovery_metrics_updated", MetricsUpdated)
-    ∷ (codes "metric_update", MetricsUpdated)
-    ∷ (codes "recovery_parameters_set", RecoveryParametersSet)
-    ∷ (codes "congestion_state_updated", CongestionStateUpdated)
-    ∷ (codes "loss_timer_updated", LossTimerUpdated)
-    ∷ (codes "timer_updated", LossTimerUpdated)
+    (codes "metrics_updated", event.MetricsUpdated)
+    ∷ (codes "recovery_metrics_updated", event.MetricsUpdated)
+    ∷ (codes "metric_update", event.MetricsUpdated)
+    ∷ (codes "recovery_parameters_set", event.RecoveryParametersSet)
+    ∷ (codes "congestion_state_updated", event.CongestionStateUpdated)
+    ∷ (codes "loss_timer_updated", event.LossTimerUpdated)
+    ∷ (codes "timer_updated", event.LossTimerUpdated)
     ∷ []
 
 abbrev pub of_connection : List (List ℕ × EventName)
 of_connection =
-    (codes "key_updated", KeyUpdated)
-    ∷ (codes "key_retired", KeyRetired)
-    ∷ (codes "key_discarded", KeyDiscarded)
-    ∷ (codes "parameters_set", ParametersSet)
-    ∷ (codes "transport_parameters_set", ParametersSet)
+    (codes "key_updated", event.KeyUpdated)
+    ∷ (codes "key_retired", event.KeyRetired)
+    ∷ (codes "key_discarded", event.KeyDiscarded)
+    ∷ (codes "parameters_set", event.ParametersSet)
+    ∷ (codes "transport_parameters_set", event.ParametersSet)
     ∷ []
 
 abbrev pub named_in : List (List ℕ × EventName) → List ℕ → Option EventName
@@ -62,5 +55,5 @@ without_category (b ∷ bs) = if list_any is_colon (b ∷ bs) then without_categ
 -- the event of a name. The category tells two apart: parameters of recovery, and of transport
 abbrev pub named : List ℕ → Option EventName
 named name =
-    if bytes_eq name (codes "recovery:parameters_set") then Some RecoveryParametersSet
+    if bytes_eq name (codes "recovery:parameters_set") then Some event.RecoveryParametersSet
     else known (without_category name)

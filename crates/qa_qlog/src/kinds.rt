@@ -1,5 +1,5 @@
 //! What a file is, by its beginning.
-ghost use Rattle.std.specs.Prelude.{◌≡◌, ◌≢◌, Err, Some, None};
+ghost use Rattle.std.specs.Prelude.{◌≡◌, ◌≢◌, true, Err, Some, None};
 ghost use Rattle.json.specs.Find.{BeginsWith};
 ghost use Rattle.json.specs.Json.{Json, document};
 ghost use Rattle.qa_qlog.specs.Kinds as kinds;
@@ -61,8 +61,12 @@ pub enum NoLog {
 
 /// What a file is that begins with these bytes: by its first line, of which no more than 1 MiB
 /// counts.
+///
+/// Only a first line that is read as JSON takes memory.
 pub fn kind_of(alloc: Global, beginning: &[u8]) -> Result<Kind, NoLog>
-    ensures { result ≢ Err NoLog.OutOfMemory → result ≡ kinds.kind_of beginning.now }
+    ensures value { result ≢ Err NoLog.OutOfMemory → result ≡ kinds.kind_of beginning.now }
+    ensures memory { result ≡ Err NoLog.OutOfMemory
+        → kinds.is_read (kinds.marked kinds.marks beginning.now) beginning.now ≡ true }
 {
     match marked(beginning) {
         Some(fault) => Err(fault),
@@ -72,7 +76,8 @@ pub fn kind_of(alloc: Global, beginning: &[u8]) -> Result<Kind, NoLog>
 
 /// What a file is that its first bytes do not show to be no log.
 fn unmarked(alloc: Global, bytes: &[u8]) -> Result<Kind, NoLog>
-    ensures { result ≢ Err NoLog.OutOfMemory → result ≡ kinds.unmarked None bytes.now }
+    ensures value { result ≢ Err NoLog.OutOfMemory → result ≡ kinds.unmarked None bytes.now }
+    ensures memory { result ≡ Err NoLog.OutOfMemory → kinds.is_read None bytes.now ≡ true }
 {
     if bytes.is_empty() {
         return Err(NoLog::Empty);
@@ -85,7 +90,8 @@ fn unmarked(alloc: Global, bytes: &[u8]) -> Result<Kind, NoLog>
 
 /// What is no log by its first bytes.
 fn marked(bytes: &[u8]) -> Option<NoLog>
-    ensures { result ≡ kinds.marked kinds.marks bytes.now }
+    ensures value { result ≡ kinds.marked kinds.marks bytes.now }
+    ensures never_memory { result ≢ Some NoLog.OutOfMemory }
 {
     if bytes.starts_with(&[0x1F, 0x8B]) {
         Some(NoLog::Gzip)
@@ -121,7 +127,8 @@ fn first_line(bytes: &[u8]) -> &[u8]
 
 /// What a file is by its first line.
 fn by_line(alloc: Global, line: &[u8]) -> Result<Kind, NoLog>
-    ensures { result ≢ Err NoLog.OutOfMemory → result ≡ kinds.by_line line.now }
+    ensures value { result ≢ Err NoLog.OutOfMemory → result ≡ kinds.by_line line.now }
+    ensures memory { result ≡ Err NoLog.OutOfMemory → kinds.is_text line.now ≡ true }
 {
     if is_netlog(line) {
         return Ok(Kind::Netlog);

@@ -1,5 +1,7 @@
-//! Logs whose texts, lines, kinds, times and names were found by hand.
+//! Logs whose texts, lines, kinds, times, names and heads were found by hand.
+mod heads;
 mod kinds;
 mod names;
+mod records;
 mod texts;
 mod times;

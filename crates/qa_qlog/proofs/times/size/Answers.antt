@@ -1,4 +1,4 @@
-use Rattle.std.proofs.Common.{◌≡◌, ◌∙◌, ◌++◌, ◌+◌, ◌<◌, ◌^◌, ap, ap₂, arith, min, sym, take, length}
+use Rattle.std.proofs.Common.{◌∙◌, ◌++◌, ◌+◌, ◌<◌, ◌^◌, ap, ap₂, arith, min, sym, take, length}
 use Rattle.std.specs.Str.Parse.{AllDigits, digits_value}
 use Rattle.fast_float.proofs.Rows.{AllDigits-append}
 use Rattle.qa_qlog.specs.Times.{cap, digits}

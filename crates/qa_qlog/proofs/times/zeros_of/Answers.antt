@@ -1,4 +1,4 @@
-use Rattle.std.proofs.Common.{◌∙◌, sym, ap, arith}
+use Rattle.std.proofs.Common.{arith}
 use Rattle.std.proofs.lemmas.List.Sums.{prefix_len-le-length}
 use Rattle.qa_qlog.specs.Times.{is_zero}
 use Rattle.qa_qlog.proofs.Digits.{zeros_on, zeros_here}

@@ -1,0 +1,85 @@
+//! What a value of a text says.
+ghost use Rattle.std.specs.Prelude.{◌≡◌, List, Option, option_map};
+ghost use Rattle.json.specs.Json.{Json};
+ghost use Rattle.json.specs.Find.{BeginsWith, Finds};
+ghost use Rattle.qa_qlog.specs.Says as said;
+
+use crate::times::is_nothing;
+use json::Element;
+
+/// Whether it says anything: null, false, 0 and what is empty do not.
+pub(crate) fn says(value: &Element<'_, '_>) -> bool
+    ensures { (j : Json) → BeginsWith value.now j → result ≡ said.says j }
+{
+    if let Some(text) = value.as_str() {
+        return !text.is_empty();
+    }
+    if let Some(number) = value.as_number() {
+        return !is_nothing(number.as_bytes());
+    }
+    if let Some(is_true) = value.as_bool() {
+        return is_true;
+    }
+    has_any(value)
+}
+
+/// Whether it is a list with an item, or an object with a member.
+fn has_any(value: &Element<'_, '_>) -> bool
+    ensures { (j : Json) → BeginsWith value.now j → result ≡ said.has_any j }
+{
+    if let Some(mut items) = value.items() {
+        return items.next().is_some();
+    }
+    match value.members() {
+        Some(mut members) => members.next().is_some(),
+        None => false,
+    }
+}
+
+/// Whether there is a value that says anything.
+pub(crate) fn says_at(found: &Option<Element<'_, '_>>) -> bool
+    ensures { (o : Option Json) → Finds found.now o → result ≡ said.says_at o }
+{
+    match found {
+        Some(value) => says(value),
+        None => false,
+    }
+}
+
+/// Whether there is a value other than null.
+pub(crate) fn is_given(found: &Option<Element<'_, '_>>) -> bool
+    ensures { (o : Option Json) → Finds found.now o → result ≡ said.is_given o }
+{
+    match found {
+        Some(value) => !value.is_null(),
+        None => false,
+    }
+}
+
+/// Whether it is an object.
+pub(crate) fn is_object(value: &Element<'_, '_>) -> bool
+    ensures { (j : Json) → BeginsWith value.now j → result ≡ said.is_object j }
+{
+    value.members().is_some()
+}
+
+/// The text of a string, if one is there.
+pub(crate) fn text_at<'a>(found: &Option<Element<'_, 'a>>) -> Option<&'a str>
+    ensures { (o : Option Json) → Finds found.now o
+        → option_map (λ s. s.now) result ≡ said.text_at o }
+{
+    match found {
+        Some(value) => value.as_str(),
+        None => None,
+    }
+}
+
+/// What an object says at a key, if there is an object.
+pub(crate) fn key_at<'t, 'a>(found: &Option<Element<'t, 'a>>, key: &str) -> Option<Element<'t, 'a>>
+    ensures { (o : Option Json) → Finds found.now o → Finds result (said.key_at key.now o) }
+{
+    match found {
+        Some(value) => value.get(key),
+        None => None,
+    }
+}
