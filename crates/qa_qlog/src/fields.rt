@@ -64,16 +64,16 @@ impl Fields {
     /// What a record says at a key.
     pub(crate) fn at_key<'t, 'a>(
         &self,
-        record: &Element<'t, 'a>,
+        value: &Element<'t, 'a>,
         key: &str,
     ) -> Option<Element<'t, 'a>>
-        ensures { (j : Json) → BeginsWith record.now j
+        ensures { (j : Json) → BeginsWith value.now j
             → Finds result (records.at_key self.now key.now j) }
     {
-        if let Some(found) = record.get(key) {
+        if let Some(found) = value.get(key) {
             return Some(found);
         }
-        match record.items() {
+        match value.items() {
             Some(items) => self.in_list(items, key),
             None => None,
         }

@@ -22,14 +22,14 @@ pub struct EventHead {
 
 impl Head {
     /// What a record says of its event; None for one that has no name, and so has no time either.
-    pub fn event(&self, record: &Element<'_, '_>) -> Result<Option<EventHead>, NoTime>
-        ensures { (j : Json) → BeginsWith record.now j
+    pub fn event(&self, value: &Element<'_, '_>) -> Result<Option<EventHead>, NoTime>
+        ensures { (j : Json) → BeginsWith value.now j
             → result ≡ records.event_of self.now.fields self.now.unit j }
     {
-        let Some(name) = text_at(&name_of(&self.fields, record)) else {
+        let Some(name) = text_at(&name_of(&self.fields, value)) else {
             return Ok(None);
         };
-        match time_of(&time_at(&self.fields, record), self.unit) {
+        match time_of(&time_at(&self.fields, value), self.unit) {
             Ok(time) => Ok(Some(EventHead {
                 name: EventName::named(name.as_bytes()),
                 time,
@@ -39,11 +39,11 @@ impl Head {
     }
 
     /// The object that a record has for its data.
-    pub fn data<'t, 'a>(&self, record: &Element<'t, 'a>) -> Option<Element<'t, 'a>>
-        ensures { (j : Json) → BeginsWith record.now j
+    pub fn data<'t, 'a>(&self, value: &Element<'t, 'a>) -> Option<Element<'t, 'a>>
+        ensures { (j : Json) → BeginsWith value.now j
             → Finds result (records.data_of self.now.fields j) }
     {
-        object_only(self.fields.at_key(record, "data"))
+        object_only(self.fields.at_key(value, "data"))
     }
 }
 
@@ -58,79 +58,79 @@ fn object_only<'t, 'a>(found: Option<Element<'t, 'a>>) -> Option<Element<'t, 'a>
 }
 
 /// The value at the first of the keys for the name that says anything.
-fn name_of<'t, 'a>(fields: &Fields, record: &Element<'t, 'a>) -> Option<Element<'t, 'a>>
-    ensures { (j : Json) → BeginsWith record.now j → Finds result (records.name_at fields.now j) }
+fn name_of<'t, 'a>(fields: &Fields, value: &Element<'t, 'a>) -> Option<Element<'t, 'a>>
+    ensures { (j : Json) → BeginsWith value.now j → Finds result (records.name_at fields.now j) }
 {
-    let name = fields.at_key(record, "name");
+    let name = fields.at_key(value, "name");
     if says_at(&name) {
         return name;
     }
-    let event = fields.at_key(record, "event");
+    let event = fields.at_key(value, "event");
     if says_at(&event) {
         return event;
     }
-    fields.at_key(record, "event_type")
+    fields.at_key(value, "event_type")
 }
 
 /// The value of the time.
-fn time_at<'t, 'a>(fields: &Fields, record: &Element<'t, 'a>) -> Option<Element<'t, 'a>>
-    ensures { (j : Json) → BeginsWith record.now j → Finds result (records.time_at fields.now j) }
+fn time_at<'t, 'a>(fields: &Fields, value: &Element<'t, 'a>) -> Option<Element<'t, 'a>>
+    ensures { (j : Json) → BeginsWith value.now j → Finds result (records.time_at fields.now j) }
 {
-    let time = fields.at_key(record, "time");
+    let time = fields.at_key(value, "time");
     if is_given(&time) {
         return time;
     }
-    named_at(fields, record)
+    named_at(fields, value)
 }
 
 /// The value at the first key that names a form of time.
-fn named_at<'t, 'a>(fields: &Fields, record: &Element<'t, 'a>) -> Option<Element<'t, 'a>>
-    ensures { (j : Json) → BeginsWith record.now j → Finds result (records.named_at fields.now j) }
+fn named_at<'t, 'a>(fields: &Fields, value: &Element<'t, 'a>) -> Option<Element<'t, 'a>>
+    ensures { (j : Json) → BeginsWith value.now j → Finds result (records.named_at fields.now j) }
 {
-    if let Some(found) = delta_at(fields, record) {
+    if let Some(found) = delta_at(fields, value) {
         return Some(found);
     }
-    if let Some(found) = relative_at(fields, record) {
+    if let Some(found) = relative_at(fields, value) {
         return Some(found);
     }
-    absolute_at(fields, record)
+    absolute_at(fields, value)
 }
 
 /// The value at the first key of a time that counts from the record before.
-fn delta_at<'t, 'a>(fields: &Fields, record: &Element<'t, 'a>) -> Option<Element<'t, 'a>>
-    ensures { (j : Json) → BeginsWith record.now j → Finds result (records.delta_at fields.now j) }
+fn delta_at<'t, 'a>(fields: &Fields, value: &Element<'t, 'a>) -> Option<Element<'t, 'a>>
+    ensures { (j : Json) → BeginsWith value.now j → Finds result (records.delta_at fields.now j) }
 {
-    if let Some(found) = fields.at_key(record, "delta") {
+    if let Some(found) = fields.at_key(value, "delta") {
         return Some(found);
     }
-    if let Some(found) = fields.at_key(record, "delta_time") {
+    if let Some(found) = fields.at_key(value, "delta_time") {
         return Some(found);
     }
-    fields.at_key(record, "relative_to_previous_event")
+    fields.at_key(value, "relative_to_previous_event")
 }
 
 /// The value at the first key of a time that counts from the start or an epoch.
-fn relative_at<'t, 'a>(fields: &Fields, record: &Element<'t, 'a>) -> Option<Element<'t, 'a>>
-    ensures { (j : Json) → BeginsWith record.now j
+fn relative_at<'t, 'a>(fields: &Fields, value: &Element<'t, 'a>) -> Option<Element<'t, 'a>>
+    ensures { (j : Json) → BeginsWith value.now j
         → Finds result (records.relative_at fields.now j) }
 {
-    if let Some(found) = fields.at_key(record, "relative") {
+    if let Some(found) = fields.at_key(value, "relative") {
         return Some(found);
     }
-    if let Some(found) = fields.at_key(record, "relative_time") {
+    if let Some(found) = fields.at_key(value, "relative_time") {
         return Some(found);
     }
-    fields.at_key(record, "relative_to_epoch")
+    fields.at_key(value, "relative_to_epoch")
 }
 
 /// The value at the first key of an absolute time.
-fn absolute_at<'t, 'a>(fields: &Fields, record: &Element<'t, 'a>) -> Option<Element<'t, 'a>>
-    ensures { (j : Json) → BeginsWith record.now j
+fn absolute_at<'t, 'a>(fields: &Fields, value: &Element<'t, 'a>) -> Option<Element<'t, 'a>>
+    ensures { (j : Json) → BeginsWith value.now j
         → Finds result (records.absolute_at fields.now j) }
 {
-    match fields.at_key(record, "absolute") {
+    match fields.at_key(value, "absolute") {
         Some(found) => Some(found),
-        None => fields.at_key(record, "time"),
+        None => fields.at_key(value, "time"),
     }
 }
 
