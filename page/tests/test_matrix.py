@@ -42,6 +42,15 @@ def children_of(number: int) -> list[int]:
     return [int(it) for it in text.split()]
 
 
+def children_when(count: int, number: int) -> list[int]:
+    """The processes that one has started, once they are so many: on a busy machine that takes a
+    while."""
+    end = time.monotonic() + 30
+    while len(found := children_of(number)) < count and time.monotonic() < end:
+        time.sleep(0.05)
+    return found
+
+
 def is_running(number: int) -> bool:
     """Whether a process is there that has not ended; one that nobody has waited for has."""
     try:
@@ -364,8 +373,7 @@ class Tables(unittest.TestCase):
                 with subprocess.Popen(
                     command, stdout=subprocess.DEVNULL, preexec_fn=as_usual
                 ) as running:
-                    time.sleep(1.5)
-                    workers = children_of(running.pid)
+                    workers = children_when(4, running.pid)
                     running.send_signal(ending)
                     self.assertEqual(running.wait(10), -ending)
                 left = set(workers)
