@@ -446,6 +446,7 @@ impl Machine {
 
 /// Drops the packets that are of no more use, and sets others aside. The first that is left is open
 /// or owed.
+#[tactic(auto, using(crate::proofs::Dropping::stands_trimmed, crate::proofs::Dropping::first_stays))]
 #[inline(always)]
 fn trim(packets: &mut SentPackets)
     ensures stands { (c : Settings) (h : List AnEvent) → IsToleratedRun c h

@@ -1,11 +1,11 @@
 -- Packets that were set aside: how a map has them, and which of them ranges name.
-use Rattle.std.proofs.Common.{◌≡◌, ◌∙◌, ℕ, ◌<◌, ◌≤◌, ◌==◌, Bool, true, false, cond, ◌&&◌, ◌||◌, not, List, [], ◌∷◌, ◌++◌, length, map, filter, take, refl, sym, ap, subst, arith, inl, inr}
+use Rattle.std.proofs.Common.{◌≡◌, ◌∙◌, ℕ, ◌+◌, ◌<◌, ◌≤◌, ◌==◌, Bool, true, false, cond, ◌&&◌, ◌||◌, not, List, [], ◌∷◌, ◌++◌, length, get_or, map, filter, take, refl, sym, ap, subst, arith, inl, inr}
 use Rattle.std.specs.List.{AllByRecursion}
 use Rattle.std.specs.Map.{remove_entry}
 use Rattle.std.specs.BTreeMap.{insert_entry, is_at}
 use Rattle.std.specs.BTreeMap.Range.{entries_between, range_contains}
 use Rattle.std.specs.Ordering.{nat_cmp}
-use Rattle.std.specs.declared.ops.Bound.TheVariants.{Included}
+use Rattle.std.specs.declared.ops.Bound.TheVariants.{Included, Unbounded}
 use Rattle.std.proofs.lemmas.Bool.{and_parts, cases_Bool, not-true}
 use Rattle.std.proofs.lemmas.Bool.Decides.{nat_tests}
 use Rattle.std.proofs.lemmas.List.{append-nil}
@@ -14,7 +14,8 @@ use Rattle.qa_base.specs.declared.space.Space.TheVariants.{Initial, Handshake, A
 use Rattle.qa_base.specs.declared.per_space.PerSpace.{PerSpace}
 use Rattle.qa_base.specs.values.Events.{is_named, is_space}
 use Rattle.qa_base.specs.values.PerSpace.{of_space, with_space}
-use Rattle.qa_sent_packets.specs.Covering.{is_between}
+use Rattle.qa_base.specs.machine.Numbers.{AreRanges}
+use Rattle.qa_sent_packets.specs.Covering.{AreApart, AreApartFrom, is_between}
 use Rattle.qa_sent_packets.specs.Fates.{is_bare, is_closed, is_open, is_open_in, is_owed}
 use Rattle.qa_sent_packets.specs.Held.{Held}
 use Rattle.qa_sent_packets.specs.Steps.{acknowledged, covered_by}
@@ -22,7 +23,8 @@ use Rattle.qa_sent_packets.specs.Strays.{AreFiled, NumbersRise, filed, without, 
 use Rattle.qa_sent_packets.specs.declared.packet.SentPacket.{SentPacket}
 use Rattle.qa_sent_packets.proofs.Acknowledged.{named_more}
 use Rattle.qa_sent_packets.proofs.Entries.{enters_last}
-use Rattle.qa_sent_packets.proofs.Opened.{at_begin, both_step, named_below}
+use Rattle.qa_sent_packets.proofs.Opened.{at_begin, both_step, named_below, rests_apart}
+use Rattle.qa_sent_packets.proofs.Rising.{below_out}
 
 -- ---- what holds of each
 
@@ -129,6 +131,44 @@ named_next front range (x ∷ ps) below rising =
     (λ named within. let low = named_below range.0 x.number front below named in let high = at_begin range.0 range.1 x.number within in omega (arith, low, high))
     (λ mine within. none_named range.0 front ps below (each_higher range.0 x.number ps (at_begin range.0 range.1 x.number within) rising.0))
     (named_next front range ps below rising.1)
+
+-- ---- those below all ranges
+
+below_if : (e : ℕ × SentPacket) (es : List (ℕ × SentPacket)) (b : Bool) → cond b (e ∷ es) es ≡ [] → (b ≡ false) × (es ≡ [])
+below_if e es true none = cc
+below_if e es false none = (refl, none)
+
+less_than : (lo n : ℕ) → range_contains nat_cmp (Included lo) Unbounded n ≡ false → n < lo
+less_than lo n out = grind (arith, nat_tests)
+
+-- where a map has none from a number on, all are below it
+pub end_below : (lo : ℕ) (es : List (ℕ × SentPacket)) → AllByRecursion (λ e. e.0 ≡ e.1.number) es → entries_between nat_cmp (Included lo) Unbounded es ≡ [] → AllByRecursion (λ p. p.number < lo) (filed es)
+end_below lo [] keyed none = tt
+end_below lo (e ∷ es) keyed none =
+    let parts = below_if e (entries_between nat_cmp (Included lo) Unbounded es) (range_contains nat_cmp (Included lo) Unbounded e.0) none in
+    let less = less_than lo e.0 parts.0 in
+    let same = keyed.0 in
+    (omega (arith, less, same), end_below lo es keyed.1 parts.1)
+
+apart_first : (ranges : List (ℕ × ℕ)) (range : ℕ × ℕ) → 0 < length ranges → range ≡ get_or ranges 0 range → AreApart ranges → AreApartFrom range.0 ranges
+apart_first [] range some is apart = absurd (omega (arith, some))
+apart_first (r ∷ rs) range some is apart = (let same = ap (λ (x : ℕ × ℕ). x.0) is in omega (arith, same), rests_apart r.1 rs apart.0 apart.1)
+
+unnamed_below : (low n : ℕ) (ranges : List (ℕ × ℕ)) → AreApartFrom low ranges → AreRanges ranges → n < low → is_named ranges n ≡ false
+unnamed_below low n [] apart ordered less = refl
+unnamed_below low n (r ∷ rs) apart ordered less =
+    let above = apart.0 in
+    let order = ordered.0 in
+    rw (below_out r.0 r.1 n (omega (arith, above, less))) (unnamed_below (r.1 + 1) n rs apart.1 ordered.1 (omega (arith, above, less, order)))
+
+-- packets below all of them are not named
+pub none_named_below : (ranges : List (ℕ × ℕ)) (range : ℕ × ℕ) (ps : List SentPacket) → 0 < length ranges → range ≡ get_or ranges 0 range → AreApart ranges → AreRanges ranges
+    → AllByRecursion (λ p. p.number < range.0) ps → filter (λ p. is_named ranges p.number) ps ≡ []
+none_named_below ranges range [] some is apart ordered below = refl
+none_named_below ranges range (p ∷ ps) some is apart ordered below =
+    ap (λ b. cond b (p ∷ filter (λ (q : SentPacket). is_named ranges q.number) ps) (filter (λ (q : SentPacket). is_named ranges q.number) ps))
+    (unnamed_below range.0 p.number ranges (apart_first ranges range some is apart) ordered below.0)
+    ∙ none_named_below ranges range ps some is apart ordered below.1
 
 -- ---- those that leave
 

@@ -108,4 +108,13 @@ impl SentPacket {
             0
         }
     }
+
+    /// What it adds to the count of the packets that were declared lost.
+    pub(crate) fn lost_count(&self) -> u64 {
+        if self.fate == Fate::DeclaredLost {
+            1
+        } else {
+            0
+        }
+    }
 }

@@ -85,7 +85,7 @@ impl Losses {
     }
 }
 
-/// Beyond so many packets the queue is crowded where most of them are settled.
+/// Beyond so many packets the queue is crowded if most of them are settled.
 const FEW_PACKETS: usize = 1_024;
 
 /// The packets that were sent since the oldest that is still of use, in the order of sending.
@@ -100,6 +100,9 @@ pub struct SentPackets {
     /// Those that were set aside, so that they keep none of the packets behind them.
     pub(crate) strays: PerSpace<Strays>,
     pub(crate) losses: Losses,
+    /// About how many packets of the queue were declared lost. One that is acknowledged all the
+    /// same counts until the queue is short.
+    lost: u64,
     /// Memory for what the next acknowledgment finds.
     pub(crate) spare: Spare,
 }
@@ -146,6 +149,7 @@ impl SentPackets {
                 from: 0,
                 to: 0,
             },
+            lost: 0,
             spare: Spare::new(alloc),
         }
     }
@@ -431,6 +435,7 @@ impl SentPackets {
     {
         let part = self.owed_part();
         declare_in(&mut self.queue.packets, part);
+        self.lost = self.lost.saturating_add(self.losses.count);
         self.losses.count = 0;
         self.losses.to = self.losses.from;
     }
@@ -474,6 +479,9 @@ impl SentPackets {
         ensures trimmed { is_first_closed self.new.packets ≡ false }
     {
         while self.drop_first() {}
+        if self.queue.packets.len() <= FEW_PACKETS {
+            self.lost = 0;
+        }
     }
 
     /// Whether there is a packet, and the first is neither open nor owed.
@@ -487,10 +495,10 @@ impl SentPackets {
         }
     }
 
-    /// Whether there are many packets, of which less than half would still be acknowledged.
+    /// Whether there are many packets, most of which are acknowledged, discarded or declared lost.
     fn is_crowded(&self) -> bool {
         let count = self.queue.packets.len();
-        FEW_PACKETS < count && self.entry_count() < count as u64 / 2
+        FEW_PACKETS < count && self.entry_count().saturating_sub(self.lost) < count as u64 / 2
     }
 
     /// Drops the first packet or sets it aside, unless there is none or it has to stay. Whether it
@@ -523,6 +531,7 @@ impl SentPackets {
             return false;
         }
         let_go(&mut self.queue, &mut self.by_space);
+        self.lost = self.lost.saturating_sub(packet.lost_count());
         true
     }
 

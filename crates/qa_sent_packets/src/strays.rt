@@ -95,10 +95,37 @@ impl Strays {
         if self.packets.is_empty() {
             return Ok(());
         }
+        if self.are_below(spans, falling) {
+            return Ok(());
+        }
         self.copy_all(spans, falling, found)
     }
 
-    /// The same, also where some were set aside.
+    /// Whether all have numbers below those that the spans name, as mostly they have: it is one
+    /// search for all spans.
+    fn are_below(&self, spans: &[Span], falling: bool) -> bool
+        requires apart { AreApart (turned falling spans.now) }
+        requires ranges { AreRanges (turned falling spans.now) }
+        ensures { result ≡ true
+            → filter (λ p. is_named (turned falling spans.now) p.number) self.now ≡ [] }
+    {
+        if spans.is_empty() {
+            return false;
+        }
+        self.end_below(NamedNumbers::nth(spans, falling, 0).lo().get())
+    }
+
+    /// Whether all have numbers below this one.
+    fn end_below(&self, number: u64) -> bool
+        ensures { result ≡ true → AllByRecursion (λ p. p.number < number) self.now }
+    {
+        match self.packets.range(number..).next() {
+            None => true,
+            Some(_) => false,
+        }
+    }
+
+    /// Copies those that some span names, one span after another.
     #[inline(never)]
     fn copy_all(
         &self,

@@ -56,16 +56,6 @@ sum_of_map weight g adds (x ∷ xs) all =
     sum_by-cons weight (g x) (map g xs)
     ∙ (ap (λ n. n + sum_by weight (map g xs)) all.0 ∙ (ap (λ n. adds x + n) (sum_of_map weight g adds xs all.1) ∙ sym (sum_by-cons adds x xs)))
 
-front_if : (m n : ℕ) (a b : Bool) → a ≡ b → m ≡ n → cond a (1 + m) 0 ≡ cond b (1 + n) 0
-front_if m n a true is same = ap (λ t. cond {A = ℕ} t (1 + m) 0) is ∙ ap (λ k. 1 + k) same
-front_if m n a false is same = ap (λ t. cond {A = ℕ} t (1 + m) 0) is
-
-pub front_of_map : {X Y : Type 0} (test : Y → Bool) (g : X → Y) (passes : X → Bool) (xs : List X) → AllByRecursion (λ x. test (g x) ≡ passes x) xs
-    → prefix_len test (map g xs) ≡ prefix_len passes xs
-front_of_map test g passes [] all = refl
-front_of_map test g passes (x ∷ xs) all =
-    front_if (prefix_len test (map g xs)) (prefix_len passes xs) (test (g x)) (passes x) all.0 (front_of_map test g passes xs all.1)
-
 -- ---- the front that passes a test, and what stands behind it
 
 passing_if : {X : Type 0} (test : X → Bool) (x : X) (xs : List X) (n : ℕ) (b : Bool) → test x ≡ b → AllByRecursion (λ y. test y ≡ true) (take n xs)

@@ -12,6 +12,9 @@ use std::marker::Model;
 /// Packets that are sent and acknowledged one by one.
 const ACKNOWLEDGED: u64 = 10_000;
 
+/// Round trips in each of which three packets are lost, and one is acknowledged.
+const LOSSY: u64 = 500;
+
 /// Packets that are never acknowledged.
 const UNACKNOWLEDGED: u64 = 500_000;
 
@@ -102,6 +105,17 @@ fn packet(time: u64, number: u64, eliciting: bool, in_flight: bool) -> Option<Ev
 /// An ack-eliciting packet.
 fn sent(time: u64, number: u64) -> Option<Event> {
     packet(time, number, true, true)
+}
+
+/// An ack-eliciting packet of which four fit into the least window.
+fn small(time: u64, number: u64) -> Option<Event> {
+    match sent(time, number)? {
+        Event::Sent(packet) => Some(Event::Sent(SentPacket {
+            size: 600,
+            ..packet
+        })),
+        _ => None,
+    }
 }
 
 /// The numbers from `lo` to `hi`, as the ranges of a line.
@@ -245,4 +259,33 @@ fn kept_after_a_stray(alloc: Global) -> Option<[Option<u128>; 2]> {
 fn what_is_set_aside_keeps_no_others(rt: HostRuntime) {
     let kept = [Some(2), Some(1)];
     assert_eq!(rt; kept_after_a_stray(rt.alloc()), Some(kept));
+}
+
+/// Three packets are sent, and 20 ms later a fourth, whose acknowledgment comes after 100 ms. That
+/// is the round-trip time, and 9/8 of it have passed since the three were sent: they are lost.
+fn take_lossy_round(history: &mut History, alloc: Global, round: u64) {
+    let time = 200_000 * round;
+    let first = 4 * round + 1;
+    history.take(small(time, first));
+    history.take(small(time, first + 1));
+    history.take(small(time, first + 2));
+    history.take(small(time + 20_000, first + 3));
+    history.take(ack(alloc, time + 120_000, first + 3));
+    history.take(lost(alloc, time + 120_000, first, first + 2));
+}
+
+/// How much a ledger keeps when most of the packets after one that is not in flight were lost.
+fn kept_after_lossy_rounds(alloc: Global) -> Option<Option<u128>> {
+    let mut history = server(alloc)?;
+    history.take(packet(0, 0, false, false));
+    for round in 0..LOSSY {
+        take_lossy_round(&mut history, alloc, round);
+    }
+    Some(history.kept())
+}
+
+/// Packets that were declared lost are not kept either behind one that is set aside.
+#[test]
+fn what_is_set_aside_keeps_no_lost_ones(rt: HostRuntime) {
+    assert_eq!(rt; kept_after_lossy_rounds(rt.alloc()), Some(Some(2)));
 }
