@@ -165,6 +165,12 @@ def all_lost(log: Log) -> Iterator[Round]:
     return last_of(log, 16)
 
 
+def lost_behind(log: Log) -> Iterator[Round]:
+    """The same behind a packet that is not in flight and never acknowledged."""
+    yield [log.sent(FIRST_NUMBER - 1, template=SENT_ALONE)]
+    yield from all_lost(log)
+
+
 def pair(log: Log, number: int, first: int, old: Iterable[Span]) -> Round:
     """Two packets, and an acknowledgment of all from a number on, with older ranges behind it."""
     packets = [log.sent(number), log.sent(number + 1)]
@@ -390,6 +396,7 @@ SHAPES = (
     MANY_RANGES,
     Shape("skipped", skipped),
     Shape("lost", lost),
+    Shape("lost-behind", lost_behind),
     Shape("three-spaces", three_spaces),
 )
 # Which are compared with other readers.
