@@ -43,7 +43,7 @@ python_of_fuzz := conformance/fuzz/run
 # The pages, and what measures and tests them.
 python_of_page := page/qaudit-page page/qaudit-matrix $(wildcard page/qaudit_page/*.py)
 python_of_page_tests := page/measure page/picture $(wildcard page/*.py page/tests/*.py)
-python_of_qlog := qlog/qlog-to-trace qlog/fuzz $(wildcard qlog/qlog_to_trace/*.py qlog/tests/*.py)
+python_of_qlog := qlog/qlog-to-trace qlog/dialects qlog/fuzz $(wildcard qlog/qlog_to_trace/*.py qlog/tests/*.py)
 # captures/transfer.py runs where aioquic is, and is checked for style alone.
 python_of_captures := captures/audit.py captures/causes.py captures/lateness captures/logs.py captures/run captures/stacks.py captures/table captures/test_causes.py captures/test_delay.py captures/test_lateness.py captures/test_upload.py examples/delay.py examples/logger.py
 python_of_release := $(addprefix release/,archive edits minutes prove unproved) $(wildcard release/*.py)

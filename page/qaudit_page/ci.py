@@ -120,10 +120,13 @@ def at(result: Result, line: int) -> str:
 
 
 def text_of(result: Result, violation: Violation) -> str:
-    """A violation in words, with the line of the trace if the file is a log."""
+    """A violation in words; if the file is a log, with the line of the trace and its place in the
+    log."""
     if not result.is_log or not violation.line:
         return violation.text
-    return f"{violation.text} (Line {count(violation.line)} of the trace that this log gives.)"
+    place = result.places.get(violation.line)
+    where = f"Line {count(violation.line)} of the trace that this log gives"
+    return f"{violation.text} ({where}{f': {place.text}' if place else ''}.)"
 
 
 # SARIF.

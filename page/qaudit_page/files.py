@@ -5,9 +5,9 @@ import os
 import tempfile
 from collections.abc import Iterator
 from pathlib import Path
-from typing import IO
+from typing import IO, BinaryIO, cast
 
-from .compressed import unpacked
+from .converter import NoProgram, Unusable, unpacked
 from .failure import Failure, Status
 from .streams import put
 
@@ -97,7 +97,11 @@ def read(path: Path | None, *, is_shown: bool = False) -> bytes:
 def beginning(file: IO[bytes], name: str, most: int) -> bytes:
     """The first bytes of an open file, decompressed if they are compressed."""
     try:
-        return unpacked(file, most, name)
+        with unpacked(cast(BinaryIO, file)) as plain:
+            return plain.read(most)
+    except Unusable as fault:
+        status = Status.FAULT if isinstance(fault, NoProgram) else Status.UNSHOWN
+        raise Failure(f"{name}: {fault}", status) from fault
     except OSError as fault:
         raise Failure(f"cannot read {name}: {reason_of(fault)}") from fault
 

@@ -40,7 +40,7 @@ def resource(name: str) -> str:
 # The parts of the script of a page, in the order in which they are joined.
 MODULES = (
     *("data", "shapes", "view", "packets", "held", "state", "strip", "table", "panel", "controls"),
-    *("find", "start"),
+    *("find", "ahead", "start"),
 )
 
 

@@ -7,14 +7,24 @@ import argparse
 import io
 import re
 import shlex
-import sys
 from dataclasses import dataclass
-from importlib.util import find_spec
 from pathlib import Path
 from typing import IO, BinaryIO, NamedTuple, TextIO, cast
 
 from .collector import without_collector
 from .conversion import object_of
+from .converter import (
+    KINDS_OF_FILE,
+    MARKS_OF_SEQUENCE,
+    RECORD_SEPARATOR,
+    Converter,
+    Unusable,
+    converter_arguments,
+    decompressed,
+    is_netlog,
+    visible,
+    wrong_in,
+)
 from .failure import Failure, Status
 from .files import (
     MAX_INPUT,
@@ -28,21 +38,9 @@ from .files import (
 )
 from .texts import count
 
-if find_spec("qlog_to_trace") is None:
-    # A release has the converter beside this package, and the repository in a folder of its own.
-    sys.path.append(str(Path(__file__).resolve().parents[2] / "qlog"))
-
-from qlog_to_trace.command import Converter, visible, wrong_in  # noqa: E402
-from qlog_to_trace.command import arguments as converter_arguments  # noqa: E402
-from qlog_to_trace.compressed import decompressed  # noqa: E402
-from qlog_to_trace.detection import KINDS_OF_FILE, MARKS_OF_SEQUENCE  # noqa: E402
-from qlog_to_trace.errors import Unusable  # noqa: E402
-from qlog_to_trace.forms import RECORD_SEPARATOR  # noqa: E402
-from qlog_to_trace.netlog import is_netlog  # noqa: E402
-
 CONVERTER = "qlog-to-trace"
 # How the names of logs end.
-ENDINGS = (".qlog", ".sqlog", ".netlog")
+ENDINGS = (".qlog", ".sqlog", ".netlog", ".netlog.json")
 # So much of a file says what it is: as long a first line is read by the converter.
 BEGINNING = 2**20
 WHITE = b" \t\r\n"

@@ -42,9 +42,9 @@ from .texts import plural, visible
 
 DESCRIPTION = """\
 Audits many traces and logs, and writes an HTML table of their verdicts to standard output. In a
-directory it finds each file, at any depth, that ends in .trace, .qlog, .sqlog or .netlog, and with
-.gz, .xz or .zst after that. A log beside its own trace (x.sqlog and x.trace) is left out: the trace
-counts. Logs are converted as qlog-to-trace does it."""
+directory it finds each file, at any depth, that ends in .trace, .qlog, .sqlog, .netlog or
+.netlog.json, and with .gz, .xz or .zst after that. A log beside its own trace (x.sqlog and x.trace)
+is left out: the trace counts. Logs are converted as qlog-to-trace does it."""
 ENDING = """\
 The exit status is 0 if all are accepted, 1 if one is refused, 2 if one cannot be read, 3 if a file
 or a program is missing or failed, and 64 if the arguments are wrong. With --against it is 0 if

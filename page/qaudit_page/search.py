@@ -6,12 +6,13 @@ from pathlib import Path
 from typing import NamedTuple
 
 from . import logs
-from .compressed import ENDINGS
 from .files import as_text, name_of
 
 ENDING = ".trace"
+# How the names of compressed files end.
+PACKED = (".gz", ".xz", ".zst")
 # How the names of files end that are looked for in directories.
-FOUND = tuple(f"{it}{packed}" for it in (ENDING, *logs.ENDINGS) for packed in ("", *ENDINGS))
+FOUND = tuple(f"{it}{packed}" for it in (ENDING, *logs.ENDINGS) for packed in ("", *PACKED))
 
 
 class LeftOut(NamedTuple):
@@ -89,7 +90,7 @@ def is_trace(path: Path) -> bool:
 
 def unpacked(name: str) -> str:
     """The name of a file without the ending of its compression."""
-    return next((name.removesuffix(it) for it in ENDINGS if name.endswith(it)), name)
+    return next((name.removesuffix(it) for it in PACKED if name.endswith(it)), name)
 
 
 def key_of(name: str) -> str:

@@ -4,6 +4,8 @@ import base64
 import json
 import os
 import sys
+import tempfile
+import unittest
 import zlib
 from html.parser import HTMLParser
 from pathlib import Path
@@ -101,6 +103,19 @@ def made_of_two(first: bytes, second: bytes, *names: str) -> str:
         part = part_of(trace, verdict, None, None)
         runs.append(Told(Wanted(Path(name), title=name), trace, verdict, part))
     return written_of_two("two traces", LIBRARY, (runs[0], runs[1]))
+
+
+class InFolder(unittest.TestCase):
+    """A test that has a folder of its own."""
+
+    def setUp(self) -> None:
+        self.folder = Path(self.enterContext(tempfile.TemporaryDirectory()))
+
+    def file(self, name: str, data: bytes) -> Path:
+        """A file with these bytes."""
+        path = self.folder / name
+        path.write_bytes(data)
+        return path
 
 
 class Page(HTMLParser):

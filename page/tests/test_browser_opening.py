@@ -11,6 +11,7 @@ BOTTOMS = (
     "return [...document.querySelectorAll('.chart')].map(it => it.getBoundingClientRect().bottom)"
 )
 TALL = "return document.querySelector(arguments[0]).offsetHeight"
+PIXELS = "return [...document.querySelectorAll('.chart canvas')].map(it => it.toDataURL())"
 # A transfer in rounds of 50 ms, and one whose last packet has no room in the window.
 ROUNDS = tuple(
     line
@@ -22,6 +23,27 @@ ROUNDS = tuple(
 )
 TOO_MANY = (HEADER, *ROUNDS[:110], *(sent(200 + n, 510_000, size=60_000) for n in range(3)))
 REFUSED = len(TOO_MANY)
+
+
+class Ahead(Browsing):
+    """The whole run is drawn ahead, out of sight."""
+
+    def setUp(self) -> None:
+        after = (sent(203 + n, 600_000 + 10_000 * n) for n in range(200))
+        self.show(made(joined(*TOO_MANY, *after), is_strict=True))
+
+    def test_nothing_of_it_is_seen(self) -> None:
+        before = self.browser.run(PIXELS), self.view()
+        self.browser.wait("return qauditPage.isDrawnAhead()")
+        self.browser.settled()
+        self.assertEqual((self.browser.run(PIXELS), self.view()), before)
+        self.assertEqual(self.browser.run("return qauditPage.frames()"), 1)
+
+    def test_it_ends_once_the_run_is_shown(self) -> None:
+        self.key("0")
+        self.browser.settled()
+        self.assertTrue(self.browser.run("return qauditPage.isDrawnAhead()"))
+        self.assertEqual(self.browser.run("return qauditPage.frames()"), 2)
 
 
 class Opening(Browsing):

@@ -28,6 +28,7 @@ EVIL = "a<b>&\x01,c"
 # Violations of two rules, at lines 13 to 22 and at line 24.
 SEVERAL = TRACES / "several-departures.trace"
 PATTERN = ("--pattern", "CLIENT_SERVER_CASE")
+STRICT = {"QLOG_TO_TRACE_OPTIONS": "--window-overshoot no"}
 
 
 def violation(rule: str, line: int = 3) -> Violation:
@@ -319,8 +320,10 @@ class Recipes(unittest.TestCase):
         logs = self.folder / "logs" / "ngtcp2" / "loss"
         logs.mkdir(parents=True)
         log = (real / "ngtcp2-past-window.qlog").read_bytes()
+        netlog = (real / "chromium-156-probe.netlog").read_bytes()
         (logs / "client.qlog").write_bytes(log)
         (logs / "packed.sqlog.gz").write_bytes(gzip.compress(log))
+        (logs / "chrome.netlog.json").write_bytes(netlog)
         shutil.copyfile(TRACES / "eleventh-past-window.trace", logs / "own.trace")
         (logs / "note.txt").write_text("no log")
 
@@ -340,33 +343,39 @@ class Recipes(unittest.TestCase):
 
     def test_a_folder_of_logs(self) -> None:
         audit = str(PROJECT / "ci" / "audit")
-        ended = self.run_script(f"{audit} logs out --pattern STACK/CASE/SIDE --annotate")
+        words = "logs out --pattern STACK/CASE/SIDE --annotate"
+        ended = self.run_script(f"{audit} {words}", **STRICT)
         self.assertEqual(ended.returncode, 1, ended.stderr)
-        self.assertIn("::error file=out/traces/ngtcp2/loss/own.trace,line=12,", ended.stdout)
+        self.assertIn("::error file=logs/ngtcp2/loss/own.trace,line=12,", ended.stdout)
+        # Of a log, at its record: by a line of it, or in words.
+        self.assertIn("::error file=logs/ngtcp2/loss/client.qlog,line=42,", ended.stdout)
+        words = "file=logs/ngtcp2/loss/chrome.netlog.json,title=.* byte [0-9,]+ of the log"
+        self.assertRegex(ended.stdout, words)
         for name in ("table.html", "junit.xml", "qaudit.sarif", "verdicts.json"):
             self.assertTrue((self.folder / "out" / name).exists(), name)
         listed = json.loads((self.folder / "out/verdicts.json").read_text())["traces"]
         self.assertEqual({it["case"] for it in listed}, {"loss"})
         self.assertEqual(
             {it["key"] for it in listed},
-            {f"ngtcp2/loss/{name}" for name in ("client", "own", "packed")},
+            {f"ngtcp2/loss/{name}" for name in ("chrome", "client", "own", "packed")},
         )
 
     def test_options_of_the_converter_and_known_violations(self) -> None:
         audit = str(PROJECT / "ci" / "audit")
-        strict = {"QLOG_TO_TRACE_OPTIONS": "--window-overshoot no"}
-        ended = self.run_script(f"{audit} logs out --known known.json --write-known", **strict)
+        ended = self.run_script(f"{audit} logs out --known known.json --write-known", **STRICT)
         self.assertEqual(ended.returncode, 0, ended.stderr)
         known = json.loads((self.folder / "known.json").read_text())["known"]
         self.assertIn("V7", {it["rule"] for it in known if it["case"].endswith("client")})
-        ended = self.run_script(f"{audit} logs out --known known.json", **strict)
+        ended = self.run_script(f"{audit} logs out --known known.json", **STRICT)
         self.assertEqual(ended.returncode, 0, ended.stderr)
 
     def test_a_log_that_cannot_be_converted_fails(self) -> None:
-        (self.folder / "logs" / "bad.sqlog").write_text("{")
-        ended = self.run_script(f"{PROJECT / 'ci' / 'audit'} logs out --known k --write-known")
-        self.assertEqual(ended.returncode, 2)
-        self.assertIn("bad.sqlog", ended.stderr)
+        audit = f"{PROJECT / 'ci' / 'audit'} logs out --known k"
+        self.assertEqual(self.run_script(f"{audit} --write-known").returncode, 0)
+        (self.folder / "logs" / "bad.sqlog").write_bytes(b'{"traces":[]}')
+        ended = self.run_script(audit)
+        self.assertEqual(ended.returncode, 1)
+        self.assertEqual(ended.stderr, "bad: new violation log not-converted\n")
 
     def test_no_logs(self) -> None:
         (self.folder / "empty").mkdir()

@@ -14,9 +14,9 @@ import zipapp
 import zlib
 from pathlib import Path
 
-from tests.made import HEADER, NO_LIBRARY, PAGE, PROGRAM, PROJECT, Page, joined, sent
+from tests.made import HEADER, NO_LIBRARY, PAGE, PROGRAM, PROJECT, InFolder, Page, joined, sent
 
-from qaudit_page import compressed, files
+from qaudit_page import files
 from qaudit_page.failure import Failure, Status
 
 VERSION = (PROJECT / "VERSION").read_text().strip()
@@ -34,17 +34,8 @@ def zstd(data: bytes) -> bytes:
     return subprocess.run(command, input=data, capture_output=True, check=True).stdout
 
 
-class Compressed(unittest.TestCase):
+class Compressed(InFolder):
     """Files that are compressed."""
-
-    def setUp(self) -> None:
-        self.folder = Path(self.enterContext(tempfile.TemporaryDirectory()))
-
-    def file(self, name: str, data: bytes) -> Path:
-        """A file with these bytes."""
-        path = self.folder / name
-        path.write_bytes(data)
-        return path
 
     def failure(self, path: Path) -> Failure:
         """Why a file is not read."""
@@ -65,7 +56,7 @@ class Compressed(unittest.TestCase):
         data = zstd(TRACE)
         self.assertEqual(files.read(self.file("trace.zst", data)), TRACE)
         failure = self.failure(self.file("part.zst", data[:-4]))
-        wanted = f"{self.folder}/part.zst is broken or not whole, as zstd data"
+        wanted = f"{self.folder}/part.zst: broken or not whole, as zstd data"
         self.assertEqual(str(failure), wanted)
 
     def test_zstd_without_its_program(self) -> None:
@@ -75,7 +66,7 @@ class Compressed(unittest.TestCase):
         os.environ["PATH"] = "/nowhere"
         failure = self.failure(path)
         self.assertEqual(failure.status, Status.FAULT)
-        self.assertIn("only if the program zstd is installed", str(failure))
+        self.assertIn("which needs the program zstd: install it", str(failure))
 
     def test_what_is_broken(self) -> None:
         for name, data in PACKED.items():
@@ -83,7 +74,7 @@ class Compressed(unittest.TestCase):
             for part in (data[:-4], data[:middle], data[:8] + b"\xff" * 8 + data[16:]):
                 failure = self.failure(self.file(name, part))
                 self.assertEqual(failure.status, Status.UNSHOWN)
-                self.assertIn(f"{self.folder}/{name} is broken or not whole", str(failure))
+                self.assertIn(f"{self.folder}/{name}: broken or not whole", str(failure))
 
     def test_no_more_is_unpacked_than_is_taken(self) -> None:
         zeros = bytes(MANY)
@@ -91,7 +82,7 @@ class Compressed(unittest.TestCase):
         forms += [] if NO_ZSTD else [zstd(zeros)]
         for data in forms:
             with self.file("zeros", data).open("rb") as file:
-                self.assertEqual(len(compressed.unpacked(file, 100, "zeros")), 100)
+                self.assertEqual(len(files.beginning(file, "zeros", 100)), 100)
 
     def test_what_takes_too_much_memory(self) -> None:
         """A dictionary of xz may be larger than memory."""
@@ -117,16 +108,13 @@ class Compressed(unittest.TestCase):
             text=True,
             check=False,
         )
-        wanted = f"{path} takes more memory than there is, as xz data\n"
+        wanted = f"{path}: it takes more memory than there is, as xz data\n"
         self.assertEqual((ended.stdout, ended.stderr), (wanted, ""))
 
 
 @unittest.skipIf(NO_LIBRARY, NO_LIBRARY)
-class Commands(unittest.TestCase):
+class Commands(InFolder):
     """The commands."""
-
-    def setUp(self) -> None:
-        self.folder = Path(self.enterContext(tempfile.TemporaryDirectory()))
 
     def test_pages_of_compressed_traces(self) -> None:
         for name, data in PACKED.items():
@@ -236,11 +224,11 @@ class Pipes(unittest.TestCase):
 
 
 @unittest.skipIf(NO_LIBRARY, NO_LIBRARY)
-class Streams(unittest.TestCase):
+class Streams(InFolder):
     """Standard streams that are closed or full, or that nobody reads."""
 
     def setUp(self) -> None:
-        self.folder = Path(self.enterContext(tempfile.TemporaryDirectory()))
+        super().setUp()
         (self.folder / "a.trace").write_bytes(TRACE)
 
     def check(self, name: str, words: str, status: int, says: str = "") -> bytes:

@@ -10,14 +10,13 @@ import os
 import shutil
 import subprocess
 import sys
-import tempfile
 import threading
 import unittest
 import zipapp
 from pathlib import Path
 from typing import Any
 
-from tests.made import HEADER, NO_LIBRARY, PAGE, PROGRAM, PROJECT, Page, joined, sent
+from tests.made import HEADER, NO_LIBRARY, PAGE, PROGRAM, PROJECT, InFolder, Page, joined, sent
 from tests.test_input import NO_ZSTD, zstd
 
 from qaudit_page import logs
@@ -183,16 +182,12 @@ class Places(unittest.TestCase):
         self.assertEqual(places_of(data, []), {})
 
 
-class Taken(unittest.TestCase):
+class Taken(InFolder):
     """The trace of a file."""
-
-    def setUp(self) -> None:
-        self.folder = Path(self.enterContext(tempfile.TemporaryDirectory()))
 
     def taken(self, data: bytes, words: str = "", *, is_shown: bool = False) -> logs.Taken:
         """What is taken of a file."""
-        path = self.folder / "given"
-        path.write_bytes(data)
+        path = self.file("given", data)
         return logs.taken(path, logs.Asked(logs.options_of(words), is_shown=is_shown))
 
     def test_a_trace_is_taken_as_it_is(self) -> None:
@@ -257,17 +252,8 @@ class Taken(unittest.TestCase):
 
 
 @unittest.skipIf(NO_LIBRARY, NO_LIBRARY)
-class Pages(unittest.TestCase):
+class Pages(InFolder):
     """The command qaudit-page."""
-
-    def setUp(self) -> None:
-        self.folder = Path(self.enterContext(tempfile.TemporaryDirectory()))
-
-    def file(self, name: str, data: bytes) -> Path:
-        """A file with these bytes."""
-        path = self.folder / name
-        path.write_bytes(data)
-        return path
 
     def ended(self, *words: object, data: bytes = b"", command: Path = PAGE / "qaudit-page") -> Any:
         """How the command ends."""
@@ -353,11 +339,8 @@ class Pages(unittest.TestCase):
         self.assertEqual(page.by_id["h1"], "bad.sqlog")
 
 
-class Searched(unittest.TestCase):
+class Searched(InFolder):
     """What is found in directories."""
-
-    def setUp(self) -> None:
-        self.folder = Path(self.enterContext(tempfile.TemporaryDirectory()))
 
     def put(self, *names: str) -> None:
         """Makes empty files, each a second younger than the one before."""
@@ -368,8 +351,9 @@ class Searched(unittest.TestCase):
             os.utime(path, (age, age))
 
     def test_names(self) -> None:
-        found = [f"{it}{packed}" for it in "abcd" for packed in ("", ".gz", ".xz", ".zst")]
-        endings = dict(zip("abcd", (".trace", ".qlog", ".sqlog", ".netlog"), strict=True))
+        found = [f"{it}{packed}" for it in "abcde" for packed in ("", ".gz", ".xz", ".zst")]
+        named = (".trace", ".qlog", ".sqlog", ".netlog", ".netlog.json")
+        endings = dict(zip("abcde", named, strict=True))
         names = [f"{it[0]}{it[1:].replace('.', '-')}/x{endings[it[0]]}{it[1:]}" for it in found]
         self.put(*names, "x.qlog.bz2", "x.json", "qlog/y", "x.qlog-old")
         (self.folder / "folder.qlog").mkdir()
@@ -403,11 +387,11 @@ class Searched(unittest.TestCase):
         self.assertFalse(gone.is_newer)
 
 
-class Tables(unittest.TestCase):
+class Tables(InFolder):
     """The command qaudit-matrix."""
 
     def setUp(self) -> None:
-        self.folder = Path(self.enterContext(tempfile.TemporaryDirectory()))
+        super().setUp()
         self.logs = self.folder / "logs"
         self.logs.mkdir()
         for name, data in (
@@ -485,7 +469,7 @@ class Tables(unittest.TestCase):
             status=0,
         )
         self.assertIn("notice file=logs/bad.sqlog,line=3,title=qaudit V6 number-not-higher", told)
-        self.assertIn("(Line 3 of the trace that this log gives.)", told)
+        self.assertIn("(Line 3 of the trace that this log gives: line 3 of the log.)", told)
         self.assertIn("notice file=logs/empty.qlog,title=qaudit log not-converted::", told)
         said = json.loads((self.folder / "sarif.json").read_text())["runs"][0]
         rules = {it["id"] for it in said["tool"]["driver"]["rules"]}
@@ -512,8 +496,10 @@ class Tables(unittest.TestCase):
         text = f'{{"qlog_version":"0.3","traces":[{{{vantage},"events":{records}}}]}}'
         (self.logs / "bad.sqlog").write_text(text)
         at = text.index('{"time": 1')
-        self.run_command("--sarif", "sarif.json", "--annotate")
+        told = self.run_command("--sarif", "sarif.json", "--annotate")
         self.assertEqual(self.results()["bad"]["place"], f"byte {at} of the log")
+        self.assertIn("error file=logs/bad.sqlog,title=qaudit V6 number-not-higher::", told)
+        self.assertIn(f"(Line 3 of the trace that this log gives: byte {at} of the log.)", told)
         said = json.loads((self.folder / "sarif.json").read_text())["runs"][0]["results"][0]
         region = said["locations"][0]["physicalLocation"]["region"]
         self.assertEqual(region, {"byteOffset": at})

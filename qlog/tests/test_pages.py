@@ -32,6 +32,13 @@ class Pages(unittest.TestCase):
                 self.assertRegex(text, rf"[(']{names}[)']", path.name)
 
 
+    def test_what_is_set_for_each_kind_of_log(self) -> None:
+        words = [sys.executable, TOP / "qlog" / "dialects"]
+        table = subprocess.run(words, capture_output=True, text=True, check=True).stdout
+        page = (TOP / "docs" / "stacks.md").read_text()
+        self.assertIn(f"\n\n{table}\n", page, "`qlog/dialects --write` mends it")
+
+
 class Real(unittest.TestCase):
     """Each log of conformance/real/traces gives the trace beside it, which sets no limit for late
     timers, and in which the latest round-trip time may be kept whole."""

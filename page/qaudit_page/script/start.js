@@ -274,6 +274,7 @@ function begin(started) {
   const seen = {
     ready: performance.now(), took: performance.now() - started,
     frames: () => frames, lastFrame: () => lastFrame, trace, view, lines,
+    isDrawnAhead: () => !stepsAhead.length,
     ranges: () => ({rtt: rttRange, window: windowRange}), lanes, heldLane: () => heldLane, cursor: () => cursorAt, heldColumns: () => {
       const area = charts.packets.getArea();
       return [...heldColumns(area, scaleOf(area, [0, 1]))];

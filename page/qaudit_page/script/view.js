@@ -155,6 +155,7 @@ function update() {
   moveCursors();
   lastFrame = performance.now() - begun;
   frames++;
+  drawAheadLater();
 }
 
 // Where a diagram has an x and a y, in pixels.
