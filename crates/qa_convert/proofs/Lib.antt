@@ -1,1 +1,3 @@
-pub mod Own
+pub mod OneLine
+pub mod PassedOver
+pub mod Spliced

@@ -3,5 +3,9 @@
 #![tactic(auto)]
 
 mod law;
+mod noted;
+mod own;
 
 pub use law::own_keys_are_passed_over;
+pub use noted::push_noted;
+pub use own::{OwnKey, OwnKeys, put_text};

@@ -1,11 +1,11 @@
 -- A line with keys behind its own that begin with `x_` is read as the line.
-use Rattle.std.proofs.Common.{◌≡◌, ◌∙◌, ℕ, ◌≤◌, ◌==◌, List, [], ◌∷◌, Bool, true, false, Option, Some, None, Result, Ok, Err, codes, Equal, refl, sym, ap, ap₂, arith}
+use Rattle.std.proofs.Common.{◌≡◌, ◌∙◌, ℕ, ◌≤◌, ◌==◌, List, [], ◌∷◌, Bool, true, false, Option, Some, None, Result, Ok, Err, codes, Ordering, Less, Equal, Greater, refl, sym, ap, ap₂, arith}
 use Rattle.std.proofs.lemmas.Map.Text.{is_eq-slice_cmp}
 use Rattle.std.proofs.lemmas.Slice.Eq.{bytes_eq-Decides}
 use Rattle.std.specs.Cmp.Lexicographic.{slice_cmp}
-use Rattle.std.specs.Ordering.{nat_cmp, is_eq}
+use Rattle.std.specs.Ordering.{nat_cmp, is_eq, match_ordering}
 use Rattle.std.specs.Prelude.{⊤, if◌then◌else◌, ok_or, option_map, take}
-use Rattle.serde_json.specs.Data.{Data, object, Members, no_members, member, members_depth, put}
+use Rattle.serde_json.specs.Data.{Data, object, Members, no_members, member, members_depth, put, string as string_of}
 use Rattle.serde_json.specs.Find.{get, get_member}
 use Rattle.serde_json.specs.Written.{compact_text}
 use Rattle.qa_base.specs.declared.event.Event.{Event}
@@ -28,15 +28,17 @@ use Rattle.qa_format.specs.declared.fault.Fault.TheVariants.{UnknownEvent}
 use Rattle.qa_format.specs.format.Keys.{◌>>=◌, both, optional, string, string_among, required}
 use Rattle.qa_format.specs.format.Proper.{IsProperLine}
 use Rattle.qa_format.specs.format.Reading.{reader_named, reader_of, object_says, reading_by, reading}
-use Rattle.qa_format.specs.format.Simple.{AreKept, HaveSimple, IsKept, put_all}
+use Rattle.qa_format.specs.format.Simple.{AreKept, HaveSimple, IsKept, is_ascii, put_all}
 use Rattle.qa_format.specs.format.Tables.{header_of, sent_of, ack_of, lost_of, timer_of, discard_of}
 use Rattle.qa_format.specs.format.Tables.{confirmed_of, keys_of, metrics_of}
 use Rattle.qa_format.specs.format.Tables.{version, unit_and_window_for, unit_and_window, option_fields, choice_fields, version_two_options, version_three_options, options_for, options, header_fields, nothing_behind}
 use Rattle.qa_format.specs.format.Written.{Pairs, event_pairs, header_pairs, members}
 use Rattle.qa_format.proofs.format.AnyOrder.{json_of-members, get_put_other}
-use Rattle.qa_format.proofs.format.KeysWritten.{Follow}
+use Rattle.qa_format.proofs.format.KeysWritten.{Follow, string_is_kept}
 use Rattle.qa_format.proofs.format.LinesWritten.{of_each, first_follows, second_follows, third_follows, event_follows, written_reads}
-use Rattle.qa_convert.specs.Own.{AreOwn, IsOwn, followed, noted}
+use Rattle.qa_convert.specs.OwnKeys.{AreOwn, IsOwn, own_key_name, followed, noted}
+use Rattle.qa_convert.specs.declared.own.OwnKey.{OwnKey}
+use Rattle.qa_convert.specs.declared.own.OwnKey.TheVariants as own
 
 -- ---- no key of the format is one of the converter's own
 
@@ -116,7 +118,7 @@ put_all-followed : (found ms own : Members) → put_all found (followed ms own) 
 put_all-followed found no_members own = refl
 put_all-followed found (member k d ms) own = put_all-followed (put k d found) ms own
 
-kept-followed : (ms own : Members) → AreKept ms → AreOwn own → AreKept (followed ms own)
+pub kept-followed : (ms own : Members) → AreKept ms → AreOwn own → AreKept (followed ms own)
 kept-followed no_members no_members kept are = tt
 kept-followed no_members (member k d own) kept are = (are.0.1, are.1, kept-followed no_members own tt are.2)
 kept-followed (member k d ms) own kept are = (kept.0, kept.1, kept-followed ms own kept.2 are)
@@ -250,10 +252,10 @@ kept_of no_members simple shallow = tt
 kept_of (member k d ms) simple shallow =
     (simple.0, record { simple = simple.2; shallow = omega (arith, shallow) }, kept_of ms simple.3 (omega (arith, shallow)))
 
-follow_kept : (ps : Pairs) → Follow [] ps → AreKept (members ps)
+pub follow_kept : (ps : Pairs) → Follow [] ps → AreKept (members ps)
 follow_kept ps follows = kept_of (members ps) follows.simple follows.shallow
 
-header_kept : (s : Settings) → AreInRange s → AreKept (members (header_pairs s))
+pub header_kept : (s : Settings) → AreInRange s → AreKept (members (header_pairs s))
 header_kept s are =
     of_each (λ t. AreKept (members (header_pairs t))) s s.version refl are (λ one. follow_kept _ (first_follows s one))
     (λ limit refresh slack_us slack_bytes two. follow_kept _ (second_follows s limit refresh slack_us slack_bytes two))
@@ -265,3 +267,27 @@ noted_reads (line.Header s) own proper are =
     reads_it (line.Header s) (members (header_pairs s)) own (header_kept s proper) are (written_reads (line.Header s) proper)
 noted_reads (line.Event e) own proper are =
     reads_it (line.Event e) (members (event_pairs e)) own (follow_kept (event_pairs e) (event_follows e proper)) are (written_reads (line.Event e) proper)
+
+-- ---- an own key more
+
+name_is_own : (k : OwnKey) → IsOwn (own_key_name k)
+name_is_own own.Dialect = (refl, refl)
+name_is_own own.Forgot = (refl, refl)
+name_is_own own.Guess = (refl, refl)
+name_is_own own.Note = (refl, refl)
+name_is_own own.Place = (refl, refl)
+name_is_own own.Space = (refl, refl)
+
+own_put_by : (o : Ordering) (k l : List ℕ) (d e : Data) (ms : Members) → IsOwn k → IsKept d → AreOwn (member l e ms) → AreOwn (put k d ms)
+    → AreOwn (match_ordering o (member k d (member l e ms)) (member l d ms) (member l e (put k d ms)))
+own_put_by Less k l d e ms is kept are later = (is, kept, are)
+own_put_by Equal k l d e ms is kept are later = (are.0, kept, are.2)
+own_put_by Greater k l d e ms is kept are later = (are.0, are.1, later)
+
+own_put : (k : List ℕ) (d : Data) (ms : Members) → IsOwn k → IsKept d → AreOwn ms → AreOwn (put k d ms)
+own_put k d no_members is kept are = (is, kept, tt)
+own_put k d (member l e ms) is kept are = own_put_by (slice_cmp nat_cmp k l) k l d e ms is kept are (own_put k d ms is kept are.2)
+
+-- a text of ASCII can be put at each
+pub text_put : (k : OwnKey) (t : List ℕ) (ms : Members) → is_ascii t ≡ true → AreOwn ms → AreOwn (put (own_key_name k) (string_of t) ms)
+text_put k t ms ascii are = own_put (own_key_name k) (string_of t) ms (name_is_own k) (string_is_kept t ascii) are
