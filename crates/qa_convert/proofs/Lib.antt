@@ -1,3 +1,4 @@
+pub mod Guessed
 pub mod OneLine
 pub mod PassedOver
 pub mod Spliced

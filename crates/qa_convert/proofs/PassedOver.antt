@@ -1,11 +1,13 @@
 -- A line with keys behind its own that begin with `x_` is read as the line.
-use Rattle.std.proofs.Common.{◌≡◌, ◌∙◌, ℕ, ◌≤◌, ◌==◌, List, [], ◌∷◌, Bool, true, false, Option, Some, None, Result, Ok, Err, codes, Ordering, Less, Equal, Greater, refl, sym, ap, ap₂, arith}
+use Rattle.std.proofs.Common.{◌≡◌, ◌∙◌, ℕ, ◌≤◌, ◌==◌, List, [], ◌∷◌, Bool, true, false, Option, Some, None, Result, Ok, Err, codes, Ordering, Less, Equal, Greater, refl, String, Global, sym, ap, ap₂, subst, arith}
 use Rattle.std.proofs.lemmas.Map.Text.{is_eq-slice_cmp}
 use Rattle.std.proofs.lemmas.Slice.Eq.{bytes_eq-Decides}
 use Rattle.std.specs.Cmp.Lexicographic.{slice_cmp}
 use Rattle.std.specs.Ordering.{nat_cmp, is_eq, match_ordering}
-use Rattle.std.specs.Prelude.{⊤, if◌then◌else◌, ok_or, option_map, take}
-use Rattle.serde_json.specs.Data.{Data, object, Members, no_members, member, members_depth, put, string as string_of}
+use Rattle.std.specs.Prelude.{⊤, OnErr, OnOk, if◌then◌else◌, ok_or, option_map, take}
+use Rattle.serde_json.specs.Data.{Data, object, Members, no_members, member, members_depth, put}
+use Rattle.serde_json.specs.View.{members_view}
+use Rattle.serde_json.specs.declared.value.Value.{Value}
 use Rattle.serde_json.specs.Find.{get, get_member}
 use Rattle.serde_json.specs.Written.{compact_text}
 use Rattle.qa_base.specs.declared.event.Event.{Event}
@@ -28,13 +30,13 @@ use Rattle.qa_format.specs.declared.fault.Fault.TheVariants.{UnknownEvent}
 use Rattle.qa_format.specs.format.Keys.{◌>>=◌, both, optional, string, string_among, required}
 use Rattle.qa_format.specs.format.Proper.{IsProperLine}
 use Rattle.qa_format.specs.format.Reading.{reader_named, reader_of, object_says, reading_by, reading}
-use Rattle.qa_format.specs.format.Simple.{AreKept, HaveSimple, IsKept, is_ascii, put_all}
+use Rattle.qa_format.specs.format.Simple.{AreKept, HaveSimple, IsKept, put_all}
 use Rattle.qa_format.specs.format.Tables.{header_of, sent_of, ack_of, lost_of, timer_of, discard_of}
 use Rattle.qa_format.specs.format.Tables.{confirmed_of, keys_of, metrics_of}
 use Rattle.qa_format.specs.format.Tables.{version, unit_and_window_for, unit_and_window, option_fields, choice_fields, version_two_options, version_three_options, options_for, options, header_fields, nothing_behind}
 use Rattle.qa_format.specs.format.Written.{Pairs, event_pairs, header_pairs, members}
 use Rattle.qa_format.proofs.format.AnyOrder.{json_of-members, get_put_other}
-use Rattle.qa_format.proofs.format.KeysWritten.{Follow, string_is_kept}
+use Rattle.qa_format.proofs.format.KeysWritten.{Follow}
 use Rattle.qa_format.proofs.format.LinesWritten.{of_each, first_follows, second_follows, third_follows, event_follows, written_reads}
 use Rattle.qa_convert.specs.OwnKeys.{AreOwn, IsOwn, own_key_name, followed, noted}
 use Rattle.qa_convert.specs.declared.own.OwnKey.{OwnKey}
@@ -288,6 +290,8 @@ own_put : (k : List ℕ) (d : Data) (ms : Members) → IsOwn k → IsKept d → 
 own_put k d no_members is kept are = (is, kept, tt)
 own_put k d (member l e ms) is kept are = own_put_by (slice_cmp nat_cmp k l) k l d e ms is kept are (own_put k d ms is kept are.2)
 
--- a text of ASCII can be put at each
-pub text_put : (k : OwnKey) (t : List ℕ) (ms : Members) → is_ascii t ≡ true → AreOwn ms → AreOwn (put (own_key_name k) (string_of t) ms)
-text_put k t ms ascii are = own_put (own_key_name k) (string_of t) ms (name_is_own k) (string_is_kept t ascii) are
+-- a value that was put at an own key, or was not
+pub own_after : {A E : Type 0} (r : Result A E) (k : OwnKey) (d : Data) (old new : List (String Global × Value)) → IsKept d → AreOwn (members_view old)
+    → OnOk r (members_view new ≡ put (own_key_name k) d (members_view old)) → OnErr r (new ≡ old) → AreOwn (members_view new)
+own_after (Ok a) k d old new kept are ok err = subst AreOwn (sym ok) (own_put (own_key_name k) d (members_view old) (name_is_own k) kept are)
+own_after (Err e) k d old new kept are ok err = subst AreOwn (sym (ap members_view err)) are

@@ -1,1 +1,2 @@
+pub mod Guesses
 pub mod OwnKeys

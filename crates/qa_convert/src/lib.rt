@@ -2,10 +2,12 @@
 //! where in the log they are from and what was guessed.
 #![tactic(auto)]
 
+mod guess;
 mod law;
 mod noted;
 mod own;
 
+pub use guess::{Guess, put_guesses};
 pub use law::own_keys_are_passed_over;
 pub use noted::push_noted;
 pub use own::{OwnKey, OwnKeys, put_text};
