@@ -1,3 +1,4 @@
+pub mod Ascii
 pub mod Guessed
 pub mod OneLine
 pub mod PassedOver

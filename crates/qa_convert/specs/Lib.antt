@@ -1,2 +1,3 @@
 pub mod Guesses
 pub mod OwnKeys
+pub mod Places

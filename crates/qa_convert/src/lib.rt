@@ -6,8 +6,10 @@ mod guess;
 mod law;
 mod noted;
 mod own;
+mod place;
 
 pub use guess::{Guess, put_guesses};
 pub use law::own_keys_are_passed_over;
 pub use noted::push_noted;
 pub use own::{OwnKey, OwnKeys, put_text};
+pub use place::{Place, Stretch, put_stretch};
