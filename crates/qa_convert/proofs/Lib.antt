@@ -1,4 +1,5 @@
 pub mod Ascii
+pub mod Flown
 pub mod Guessed
 pub mod OneLine
 pub mod PassedOver

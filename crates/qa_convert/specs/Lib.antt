@@ -1,3 +1,4 @@
+pub mod Flights
 pub mod Guesses
 pub mod OwnKeys
 pub mod Places

@@ -2,12 +2,14 @@
 //! where in the log they are from and what was guessed.
 #![tactic(auto)]
 
+mod flight;
 mod guess;
 mod law;
 mod noted;
 mod own;
 mod place;
 
+pub use flight::{Flight, Flying};
 pub use guess::{Guess, put_guesses};
 pub use law::own_keys_are_passed_over;
 pub use noted::push_noted;
