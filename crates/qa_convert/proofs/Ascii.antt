@@ -5,7 +5,6 @@ use Rattle.std.proofs.lemmas.Bool.{and_parts, and_from}
 use Rattle.std.proofs.lemmas.Fmt.{decimal_by_steps}
 use Rattle.qa_format.specs.format.Simple.{is_ascii}
 use Rattle.qa_convert.specs.Places.{is_place, place_text, stretch_text}
-use Rattle.qa_convert.specs.declared.place.Place.{Place}
 use Rattle.qa_convert.specs.declared.place.Stretch.{Stretch}
 
 pub is_ascii-append : (xs ys : List ℕ) → is_ascii xs ≡ true → is_ascii ys ≡ true → is_ascii (xs ++ ys) ≡ true

@@ -1,7 +1,7 @@
 -- That guesses can be written and read.
 use Rattle.std.proofs.Common.{◌≡◌, ◌∙◌, ◌≤◌, ◌<◌, ◌+◌, ℕ, List, [], ◌∷◌, ◌++◌, get_or, length, map, take, true, refl, sym, ap, arith}
 use Rattle.std.proofs.lemmas.List.{map-append, map_more}
-use Rattle.serde_json.specs.Data.{Data, Items, array, item, items_depth, string}
+use Rattle.serde_json.specs.Data.{Data, array, item, items_depth, string}
 use Rattle.serde_json.specs.View.{items_of}
 use Rattle.qa_format.specs.format.Simple.{AreSimple, IsKept, is_ascii}
 use Rattle.qa_convert.specs.Guesses.{guess_text, texts_of}

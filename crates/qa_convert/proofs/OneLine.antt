@@ -1,8 +1,8 @@
 -- The text of a line with own keys has no LF.
-use Rattle.std.proofs.Common.{◌≡◌, ◌∙◌, ℕ, List, [], ◌∷◌, ◌++◌, Bool, true, false, refl, ap}
+use Rattle.std.proofs.Common.{◌≡◌, ℕ, List, [], ◌∷◌, ◌++◌, Bool, true, false, refl}
 use Rattle.std.proofs.lemmas.Bool.{or_parts, or_from}
 use Rattle.json.specs.Print.{quoted}
-use Rattle.serde_json.specs.Data.{Members, no_members, member, object, string}
+use Rattle.serde_json.specs.Data.{Members, no_members, member, string}
 use Rattle.serde_json.specs.Written.{comma_if, compact_text, members_text}
 use Rattle.qa_format.specs.declared.line.Line.{Line}
 use Rattle.qa_format.specs.declared.line.Line.TheVariants as line

@@ -1,8 +1,8 @@
 -- The text of an object with more members behind its own, by the texts of both.
-use Rattle.std.proofs.Common.{◌≡◌, ◌∙◌, ℕ, ◌-◌, ◌≤◌, Option, Some, None, List, [], ◌∷◌, ◌++◌, length, take, drop, Bool, true, false, refl, sym, ap, ap₂, append_assoc, append-nil, length-append, arith}
+use Rattle.std.proofs.Common.{◌≡◌, ◌∙◌, ℕ, ◌-◌, ◌≤◌, Option, Some, None, List, [], ◌∷◌, ◌++◌, length, take, Bool, true, false, refl, sym, ap, append_assoc, length-append, arith}
 use Rattle.std.proofs.Math.Seq.{take-append_seam}
 use Rattle.json.specs.Print.{quoted}
-use Rattle.serde_json.specs.Data.{Num, unsigned, negative, float, Data, null, boolean, number, string, array, Items, no_items, item, Members, no_members, member, object}
+use Rattle.serde_json.specs.Data.{unsigned, negative, float, Data, null, boolean, number, string, array, Items, no_items, item, Members, no_members, member, object}
 use Rattle.serde_json.specs.Written.{comma_if, compact_text, members_text}
 use Rattle.serde_json.specs.Written.{has_float, items_have_float, members_have_float}
 use Rattle.std.proofs.lemmas.Bool.{or_from}
@@ -12,7 +12,7 @@ use Rattle.qa_base.specs.declared.event.MetricValues.{MetricValues}
 use Rattle.qa_base.specs.values.Settings.{Settings}
 use Rattle.qa_format.specs.declared.line.Line.{Line}
 use Rattle.qa_format.specs.declared.line.Line.TheVariants as line
-use Rattle.qa_format.specs.format.Simple.{IsKept, IsSimple, AreSimple, HaveSimple, IsUnsigned}
+use Rattle.qa_format.specs.format.Simple.{IsSimple, AreSimple, HaveSimple}
 use Rattle.qa_format.specs.format.Written.{event_pairs, header_pairs, members, written}
 use Rattle.qa_convert.specs.OwnKeys.{AreOwn, followed, has_member, joined, noted}
 

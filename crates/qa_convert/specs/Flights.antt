@@ -1,5 +1,5 @@
 -- Packets in flight, by their numbers.
-use Rattle.std.specs.Prelude.{◌≤◌, ℕ, List, Option, sum_by}
+use Rattle.std.specs.Prelude.{◌≤◌, ◌&&◌, ℕ, nat_le, Bool, List, Option, sum_by}
 use Rattle.std.specs.BTreeMap.{is_at}
 use Rattle.std.specs.List.{AllByRecursion}
 use Rattle.std.specs.Map.{lookup, remove_entry}
@@ -22,3 +22,7 @@ flying_at n es = lookup (is_at (nat_cmp n)) es
 -- without it
 abbrev pub without_number : ℕ → List (ℕ × Flying) → List (ℕ × Flying)
 without_number n es = remove_entry (is_at (nat_cmp n)) es
+
+-- the span names the number
+abbrev pub is_within : ℕ × ℕ → ℕ → Bool
+is_within span n = nat_le span.0 n && nat_le n span.1

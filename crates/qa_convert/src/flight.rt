@@ -1,10 +1,11 @@
 //! The packets in flight of a packet number space, as the log tells of them.
-ghost use Rattle.std.specs.Prelude.{◌≡◌, ◌≤◌, [], None, OnErr, OnOk};
+ghost use Rattle.std.specs.Prelude.{◌≡◌, ◌≤◌, [], None, OnErr, OnOk, filter, find, not};
 ghost use Rattle.std.specs.Ordering.{nat_cmp};
 ghost use Rattle.std.specs.BTreeMap.{insert_entry};
 ghost use Rattle.qa_base.specs.values.Limits.{max_packet_size};
-ghost use Rattle.qa_convert.specs.Flights.{flying_at, flying_bytes, without_number};
+ghost use Rattle.qa_convert.specs.Flights.{flying_at, flying_bytes, is_within, without_number};
 
+use qa_base::Span;
 use std::alloc::{AllocError, Global};
 use std::collections::BTreeMap;
 use std::marker::Model;
@@ -106,5 +107,26 @@ impl Flight {
     {
         self.packets.clear();
         self.bytes = 0;
+    }
+
+    /// The first packet in flight that the span names, and its number.
+    pub fn first_named(&self, span: Span) -> Option<(u64, Flying)>
+        ensures { result ≡ find (λ e. is_within span e.0) self.now }
+    {
+        let lo = span.lo().get();
+        let hi = span.hi().get();
+        match self.packets.range(lo..=hi).next() {
+            None => None,
+            Some((number, packet)) => Some((*number, *packet)),
+        }
+    }
+
+    /// Those that the span names leave. Takes some steps for each of them.
+    pub fn take_named(&mut self, span: Span)
+        ensures { self.new ≡ filter (λ e. not (is_within span e.0)) self.old }
+    {
+        while let Some((number, _)) = self.first_named(span) {
+            self.take(number);
+        }
     }
 }

@@ -1,5 +1,4 @@
-use Rattle.std.proofs.Common.{◌≡◌, ◌∙◌, sym, arith}
-use Rattle.qa_convert.specs.Flights.{flying_at}
+use Rattle.std.proofs.Common.{arith}
 use Rattle.qa_convert.proofs.Flown.{bytes_with, sized_with}
 use Rattle.qa_convert.proofs.flight.Flight.add.Goals as goal
 

@@ -1,5 +1,4 @@
-use Rattle.std.proofs.Common.{◌≡◌, ◌∙◌, Some, sym, arith}
-use Rattle.qa_convert.specs.Flights.{flying_at}
+use Rattle.std.proofs.Common.{◌∙◌, sym, arith}
 use Rattle.qa_convert.proofs.Flown.{sized_without, taken_bytes}
 use Rattle.qa_convert.proofs.flight.Flight.take.Goals as goal
 

@@ -1,6 +1,4 @@
-use Rattle.std.proofs.Common.{◌≡◌, ◌∙◌, Bool, true, false, refl, sym}
-use Rattle.qa_format.specs.format.Simple.{is_ascii}
-use Rattle.qa_convert.specs.Places.{is_place, place_text}
+use Rattle.std.proofs.Common.{◌≡◌, ◌∙◌, true, false, sym}
 use Rattle.qa_convert.proofs.Ascii.{stretch_is_ascii}
 use Rattle.qa_convert.proofs.place.Stretch.text.Goals as goal
 use Rattle.qa_convert.proofs.place.Stretch.text.Goals.{then-not-is_at+in_ok-push_str-2+in_ok-push-2, else-not-is_at}
