@@ -182,8 +182,18 @@ module _ (ms es : Members) (same : Alike ms es) where
 
   choices_alike : choice_fields (object ms) ≡ choice_fields (object es)
   choices_alike =
-      rw (same key.WindowOvershoot, same key.SampleElicitingOnly, same key.PacketThreshold, same key.TimerEarlyUs, same key.LossByNumber, same key.ThresholdCounts,
-      same key.ResetRtt, same key.LatestRttLessDelay, same key.TimeThresholdEighths, same key.RecoveryByOrder) refl
+      rw (
+        same key.WindowOvershoot,
+        same key.SampleElicitingOnly,
+        same key.PacketThreshold,
+        same key.TimerEarlyUs,
+        same key.LossByNumber,
+        same key.ThresholdCounts,
+        same key.ResetRtt,
+        same key.LatestRttLessDelay,
+        same key.TimeThresholdEighths,
+        same key.RecoveryByOrder,
+      ) refl
 
   two_alike : version_two_options (object ms) ≡ version_two_options (object es)
   two_alike = rw options_alike refl

@@ -131,11 +131,7 @@ impl Guess {
 
 /// Puts what is said of guesses at its key, in their order. `AllocError` comes if it is out of
 /// memory, and leaves the keys as they were.
-pub fn put_guesses(
-    keys: &mut OwnKeys,
-    alloc: Global,
-    guesses: &[Guess],
-) -> Result<(), AllocError>
+pub fn put_guesses(keys: &mut OwnKeys, alloc: Global, guesses: &[Guess]) -> Result<(), AllocError>
     requires { AreOwn (members_view keys.old.entries) }
     ensures ok { OnOk result (members_view keys.new.entries
         ≡ put (own_key_name keys_of.Guess) (array (texts_of guesses.now))

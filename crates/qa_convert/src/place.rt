@@ -90,11 +90,7 @@ impl Stretch {
 
 /// Puts where a line is from at its key. `AllocError` comes if it is out of memory, and leaves the
 /// keys as they were.
-pub fn put_stretch(
-    keys: &mut OwnKeys,
-    alloc: Global,
-    stretch: Stretch,
-) -> Result<(), AllocError>
+pub fn put_stretch(keys: &mut OwnKeys, alloc: Global, stretch: Stretch) -> Result<(), AllocError>
     requires { AreOwn (members_view keys.old.entries) }
     ensures ok { OnOk result (members_view keys.new.entries
         ≡ put (own_key_name keys_of.Place) (string (stretch_text stretch))
