@@ -1,0 +1,65 @@
+-- That guesses can be written and read.
+use Rattle.std.proofs.Common.{◌≡◌, ◌∙◌, ◌≤◌, ◌<◌, ◌+◌, ℕ, List, [], ◌∷◌, ◌++◌, get_or, length, map, take, true, refl, sym, ap, arith}
+use Rattle.std.proofs.lemmas.List.{map-append, map_more}
+use Rattle.serde_json.specs.Data.{Data, array, item, items_depth, string}
+use Rattle.serde_json.specs.View.{items_of}
+use Rattle.qa_format.specs.format.Simple.{AreSimple, IsKept, is_ascii}
+use Rattle.qa_convert.specs.Guesses.{guess_text, texts_of}
+use Rattle.qa_convert.specs.declared.guess.Guess.{Guess}
+use Rattle.qa_convert.specs.declared.guess.Guess.TheVariants as guess
+
+text_is_ascii : (g : Guess) → is_ascii (guess_text g) ≡ true
+text_is_ascii guess.DatagramByWindow = refl
+text_is_ascii guess.DatagramByPacket = refl
+text_is_ascii guess.DatagramLeast = refl
+text_is_ascii guess.NoMaxAckDelay = refl
+text_is_ascii guess.NoWindow = refl
+text_is_ascii guess.HiddenWindow = refl
+text_is_ascii guess.InitialRtt = refl
+text_is_ascii guess.ProbeByCount = refl
+text_is_ascii guess.ProbeByPing = refl
+text_is_ascii guess.ProbeByRoom = refl
+text_is_ascii guess.ProbeByTrigger = refl
+text_is_ascii guess.Size = refl
+text_is_ascii guess.SizeByGrowth = refl
+text_is_ascii guess.TimerSpace = refl
+text_is_ascii guess.LossTimer = refl
+text_is_ascii guess.Discard = refl
+text_is_ascii guess.Confirmed = refl
+text_is_ascii guess.Delay = refl
+text_is_ascii guess.Arrival = refl
+text_is_ascii guess.Moment = refl
+text_is_ascii guess.LimitedByWindow = refl
+text_is_ascii guess.LeaveProbe = refl
+text_is_ascii guess.LeaveRecovery = refl
+text_is_ascii guess.TimeBack = refl
+
+texts_are_simple : (gs : List Guess) → AreSimple (texts_of gs)
+texts_are_simple [] = tt
+texts_are_simple (g ∷ gs) = (text_is_ascii g, texts_are_simple gs)
+
+texts_are_shallow : (gs : List Guess) → items_depth (texts_of gs) ≤ 1
+texts_are_shallow [] = omega arith
+texts_are_shallow (g ∷ gs) = omega (arith, texts_are_shallow gs)
+
+pub guesses_are_kept : (gs : List Guess) → IsKept (array (texts_of gs))
+guesses_are_kept gs = record { simple = texts_are_simple gs; shallow = omega (arith, texts_are_shallow gs) }
+
+-- ---- a list of them
+
+abbrev pub text_value : Guess → Data
+text_value g = string (guess_text g)
+
+pub items_of-text_value : (gs : List Guess) → items_of (map text_value gs) ≡ texts_of gs
+items_of-text_value [] = refl
+items_of-text_value (g ∷ gs) = ap (item (text_value g)) (items_of-text_value gs)
+
+-- one value more stands for one guess more
+pub one_more : {X : Type 0} (f : X → Data) (values : List X) (v : X) (gs : List Guess) (i : ℕ) (g : Guess)
+    → map f values ≡ map text_value (take i gs) → f v ≡ text_value g → g ≡ get_or gs i g → i < length gs
+    → map f (values ++ v ∷ []) ≡ map text_value (take (i + 1) gs)
+one_more f values v gs i g listed one at inside =
+    map-append f values (v ∷ [])
+    ∙ ap (λ xs. xs ++ f v ∷ []) listed
+    ∙ ap (λ x. map text_value (take i gs) ++ x ∷ []) (one ∙ ap text_value at)
+    ∙ sym (map_more text_value gs i g inside)

@@ -1,0 +1,6 @@
+pub mod Ascii
+pub mod Flown
+pub mod Guessed
+pub mod OneLine
+pub mod PassedOver
+pub mod Spliced

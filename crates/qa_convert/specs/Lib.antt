@@ -1,0 +1,4 @@
+pub mod Flights
+pub mod Guesses
+pub mod OwnKeys
+pub mod Places

@@ -1,0 +1,51 @@
+-- Keys that a line has behind those of its table: they begin with `x_`, and no reader knows them.
+use Rattle.std.specs.Prelude.{◌≡◌, ◌-◌, ℕ, List, [], ◌∷◌, ◌++◌, Bool, true, false, ⊤, codes}
+use Rattle.std.specs.Prelude.{drop, length, take}
+use Rattle.serde_json.specs.Data.{Members, no_members, member, object}
+use Rattle.serde_json.specs.Written.{compact_text}
+use Rattle.qa_convert.specs.declared.own.OwnKey.{OwnKey}
+use Rattle.qa_convert.specs.declared.own.OwnKey.TheVariants.{Dialect, Forgot, Guess, Note, Place}
+use Rattle.qa_convert.specs.declared.own.OwnKey.TheVariants.{Space}
+use Rattle.qa_format.specs.declared.line.Line.{Line}
+use Rattle.qa_format.specs.declared.line.Line.TheVariants as line
+use Rattle.qa_format.specs.format.Simple.{IsKept, is_ascii}
+use Rattle.qa_format.specs.format.Written.{event_pairs, header_pairs, members}
+
+-- the names of the converter's own keys
+abbrev pub own_key_name : OwnKey → List ℕ
+own_key_name Dialect = codes "x_dialect"
+own_key_name Forgot = codes "x_forgot"
+own_key_name Guess = codes "x_guess"
+own_key_name Note = codes "x_note"
+own_key_name Place = codes "x_place"
+own_key_name Space = codes "x_space"
+
+-- there is a member
+abbrev pub has_member : Members → Bool
+has_member no_members = false
+has_member (member k d ms) = true
+
+-- members, and others behind them
+abbrev pub followed : Members → Members → Members
+followed no_members own = own
+followed (member k d ms) own = member k d (followed ms own)
+
+-- the key begins with `x_`
+abbrev pub IsOwn : List ℕ → Type 0
+IsOwn k = (take 2 k ≡ codes "x_") × (is_ascii k ≡ true)
+
+-- each key does, and its value can be written and read
+abbrev pub AreOwn : Members → Type 0
+AreOwn no_members = ⊤
+AreOwn (member k d ms) = IsOwn k × IsKept d × AreOwn ms
+
+-- the texts of two objects as one: all but the last byte of the first, a comma, and all but the
+-- first byte of the second
+abbrev pub joined : List ℕ → List ℕ → List ℕ
+joined text own = take (length text - 1) text ++ 44 ∷ drop 1 own
+
+-- the text of a line with keys of the converter's own behind its keys; a blank line has none
+abbrev pub noted : Line → Members → List ℕ
+noted line.Blank own = []
+noted (line.Header s) own = compact_text (object (followed (members (header_pairs s)) own))
+noted (line.Event e) own = compact_text (object (followed (members (event_pairs e)) own))

@@ -1,0 +1,17 @@
+//! The conversion of a qlog to a trace: the lines that are written, and the keys in which they say
+//! where in the log they are from and what was guessed.
+#![tactic(auto)]
+
+mod flight;
+mod guess;
+mod law;
+mod noted;
+mod own;
+mod place;
+
+pub use flight::{Flight, Flying};
+pub use guess::{Guess, put_guesses};
+pub use law::own_keys_are_passed_over;
+pub use noted::push_noted;
+pub use own::{OwnKey, OwnKeys, put_text};
+pub use place::{Place, Stretch, put_stretch};

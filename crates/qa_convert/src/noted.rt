@@ -1,0 +1,65 @@
+//! A line, written with keys of the converter's own.
+ghost use Rattle.std.specs.Prelude.{◌≡◌, ◌≤◌, ◌++◌, ◌∷◌, [], OnOk, IfOk, length, string_bytes, true};
+ghost use Rattle.serde_json.specs.Data.{object};
+ghost use Rattle.serde_json.specs.View.{members_view};
+ghost use Rattle.serde_json.specs.Written.{compact_text};
+ghost use Rattle.qa_convert.specs.OwnKeys.{AreOwn, joined, noted};
+ghost use Rattle.qa_format.specs.format.Written.{line_fits};
+
+use crate::own::OwnKeys;
+use qa_format::Line;
+use qa_trace::write_line;
+use serde_json::Value;
+use std::alloc::{AllocError, Global};
+
+/// Appends the text of a line, with own keys behind its keys, and LF.
+///
+/// Asks for an event that fits (`Event::fits`): no line says another. `AllocError` comes if it is
+/// out of memory; what was appended by then is of no use.
+pub fn push_noted(
+    alloc: Global,
+    line: &Line,
+    own: OwnKeys,
+    out: &mut Vec<u8>,
+) -> Result<(), AllocError>
+    requires fitting { line_fits line.now ≡ true }
+    requires own { AreOwn (members_view own.entries) }
+    ensures { OnOk result (out.new.items
+        ≡ out.old.items ++ (noted line.now (members_view own.entries) ++ 10 ∷ [])) }
+{
+    let text = write_line(alloc, line)?;
+    if own.is_empty() || text.is_empty() {
+        return push_line(text.as_bytes(), out);
+    }
+    let own_text = text_of(alloc, own)?;
+    push_joined(text.as_bytes(), own_text.as_bytes(), out)
+}
+
+/// The object of own keys as a text of JSON, without white space.
+fn text_of(alloc: Global, own: OwnKeys) -> Result<String, AllocError>
+    requires { AreOwn (members_view own.entries) }
+    ensures { IfOk result (λ text. string_bytes text
+        ≡ compact_text (object (members_view own.entries))) }
+{
+    Value::from(own).to_string(alloc)
+}
+
+/// Appends a text and LF.
+fn push_line(text: &[u8], out: &mut Vec<u8>) -> Result<(), AllocError>
+    ensures { OnOk result (out.new.items ≡ out.old.items ++ (text.now ++ 10 ∷ [])) }
+{
+    out.extend_from_slice(text)?;
+    out.extend_from_slice(b"\n")
+}
+
+/// Appends the text of an object with the members of another behind its own, and LF.
+fn push_joined(text: &[u8], own: &[u8], out: &mut Vec<u8>) -> Result<(), AllocError>
+    requires text { 1 ≤ length text.now }
+    requires own { 1 ≤ length own.now }
+    ensures { OnOk result (out.new.items
+        ≡ out.old.items ++ (joined text.now own.now ++ 10 ∷ [])) }
+{
+    out.extend_from_slice(&text[..text.len() - 1])?;
+    out.extend_from_slice(b",")?;
+    push_line(&own[1..], out)
+}

@@ -1,0 +1,3 @@
+//! Lines and flights that were worked out by hand.
+mod flight;
+mod lines;

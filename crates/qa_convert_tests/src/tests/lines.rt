@@ -1,0 +1,172 @@
+//! Lines with own keys, as a log's converter writes them.
+ghost use Rattle.std.specs.Prelude.{◌≡◌};
+ghost use Rattle.qa_format.specs.format.Written.{line_fits};
+
+use qa_base::{Event, PacketNumber, Permission, SentPacket, Space, Ticks, TimerKind};
+use qa_convert::{
+    Guess, OwnKey, OwnKeys, Place, Stretch, push_noted, put_guesses, put_stretch, put_text,
+};
+use qa_format::Line;
+use std::alloc::{AllocError, Global};
+
+/// A packet of 1,200 bytes.
+fn sent() -> Option<Line> {
+    Some(Line::Event(Event::Sent(SentPacket {
+        time: Ticks::new(3)?,
+        space: Space::App,
+        number: PacketNumber::new(7)?,
+        size: 1200,
+        eliciting: true,
+        in_flight: true,
+        permission: Permission::Window,
+    })))
+}
+
+/// A probe timeout.
+fn timer() -> Option<Line> {
+    Some(Line::Event(Event::Timer {
+        time: Ticks::new(4)?,
+        kind: TimerKind::Pto,
+        space: Space::App,
+    }))
+}
+
+/// Where records stand that begin at these lines.
+fn at(first: u64, last: u64, is_guess: bool) -> Stretch {
+    Stretch {
+        first: Place::Line(first),
+        last: Place::Line(last),
+        is_guess,
+    }
+}
+
+/// The text of a line with no own keys.
+fn plain_text(alloc: Global, line: &Line) -> Result<Vec<u8>, AllocError> {
+    let mut out = Vec::new(alloc);
+    if fits(line) {
+        push_noted(alloc, line, OwnKeys::new(alloc), &mut out)?;
+    }
+    Ok(out)
+}
+
+/// Whether the line is one that can be written.
+fn fits(line: &Line) -> bool
+    ensures { result ≡ line_fits line.now }
+{
+    match line {
+        Line::Event(event) => event.fits(),
+        _ => true,
+    }
+}
+
+/// The text of a line that is from there, and of which these guesses were made.
+fn noted_text(
+    alloc: Global,
+    line: &Line,
+    stretch: Stretch,
+    guesses: &[Guess],
+) -> Result<Vec<u8>, AllocError> {
+    let mut own = OwnKeys::new(alloc);
+    if !guesses.is_empty() {
+        put_guesses(&mut own, alloc, guesses)?;
+    }
+    put_stretch(&mut own, alloc, stretch)?;
+    let mut out = Vec::new(alloc);
+    if fits(line) {
+        push_noted(alloc, line, own, &mut out)?;
+    }
+    Ok(out)
+}
+
+/// A line that has no own keys is as `write_line` has it.
+#[test]
+fn no_own_keys(rt: HostRuntime) {
+    let text = match sent() {
+        Some(line) => plain_text(rt.alloc(), &line),
+        None => Ok(Vec::new(rt.alloc())),
+    };
+    let expected: &[u8] =
+        b"{\"eliciting\":true,\"event\":\"sent\",\"in_flight\":true,\"leave\":\"window\",\"number\":7,\"size\":1200,\"space\":\"app\",\"time\":3}\n";
+    assert!(rt; is_text(&text, expected));
+}
+
+/// Whether these bytes were written.
+fn is_text(text: &Result<Vec<u8>, AllocError>, expected: &[u8]) -> bool {
+    match text {
+        Ok(text) => text.as_slice() == expected,
+        Err(_) => false,
+    }
+}
+
+/// A line of one record.
+#[test]
+fn one_record(rt: HostRuntime) {
+    let text = match sent() {
+        Some(line) => noted_text(rt.alloc(), &line, at(5, 5, false), &[]),
+        None => Ok(Vec::new(rt.alloc())),
+    };
+    let expected: &[u8] =
+        b"{\"eliciting\":true,\"event\":\"sent\",\"in_flight\":true,\"leave\":\"window\",\"number\":7,\"size\":1200,\"space\":\"app\",\"time\":3,\"x_place\":\"line 5\"}\n";
+    assert!(rt; is_text(&text, expected));
+}
+
+/// A line of several records, with two guesses.
+#[test]
+fn several_records(rt: HostRuntime) {
+    let guesses = [Guess::LossTimer, Guess::Moment];
+    let text = match timer() {
+        Some(line) => noted_text(rt.alloc(), &line, at(5, 19, true), &guesses),
+        None => Ok(Vec::new(rt.alloc())),
+    };
+    let expected: &[u8] =
+        b"{\"event\":\"timer\",\"kind\":\"pto\",\"space\":\"app\",\"time\":4,\"x_guess\":[\"a loss timer: no acknowledgment shows the losses\",\"time: part of a millisecond earlier, so that a packet is not lost yet\"],\"x_place\":\"guessed at line 5 to line 19\"}\n";
+    assert!(rt; is_text(&text, expected));
+}
+
+/// The own keys of a line in which their order is that of their names.
+fn own_text(alloc: Global) -> Result<Vec<u8>, AllocError> {
+    let mut own = OwnKeys::new(alloc);
+    put_text(&mut own, alloc, OwnKey::Space, "app")?;
+    put_text(&mut own, alloc, OwnKey::Dialect, "quic-go")?;
+    put_stretch(
+        &mut own,
+        alloc,
+        Stretch {
+            first: Place::Byte(12),
+            last: Place::Byte(12),
+            is_guess: false,
+        },
+    )?;
+    let mut out = Vec::new(alloc);
+    push_noted(
+        alloc,
+        &Line::Event(Event::Keys { time: Ticks::of(9) }),
+        own,
+        &mut out,
+    )?;
+    Ok(out)
+}
+
+/// Own keys stand in the order of their names.
+#[test]
+fn own_keys_rise(rt: HostRuntime) {
+    let expected: &[u8] =
+        b"{\"event\":\"keys\",\"time\":9,\"x_dialect\":\"quic-go\",\"x_place\":\"byte 12\",\"x_space\":\"app\"}\n";
+    assert!(rt; is_text(&own_text(rt.alloc()), expected));
+}
+
+/// A blank line has no keys, so it has no own ones.
+#[test]
+fn blank_line(rt: HostRuntime) {
+    let text = noted_text(rt.alloc(), &Line::Blank, at(1, 1, false), &[]);
+    assert!(rt; is_text(&text, b"\n"));
+}
+
+/// Which guesses are of whole lines.
+#[test]
+fn guesses_of_lines(rt: HostRuntime) {
+    assert!(rt; Guess::Discard.is_of_line());
+    assert!(rt; Guess::ProbeByCount.is_of_line());
+    assert!(rt; !Guess::LeaveProbe.is_of_line());
+    assert!(rt; !Guess::TimerSpace.is_of_line());
+}
