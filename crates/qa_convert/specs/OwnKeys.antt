@@ -1,6 +1,6 @@
 -- Keys that a line has behind those of its table: they begin with `x_`, and no reader knows them.
 use Rattle.std.specs.Prelude.{◌≡◌, ◌-◌, ℕ, List, [], ◌∷◌, ◌++◌, Bool, true, false, ⊤, codes}
-use Rattle.std.specs.Prelude.{drop, length, take}
+use Rattle.std.specs.Prelude.{◌≤◌, drop, length, map, take}
 use Rattle.serde_json.specs.Data.{Members, no_members, member, object}
 use Rattle.serde_json.specs.Written.{compact_text}
 use Rattle.qa_convert.specs.declared.own.OwnKey.{OwnKey}
@@ -8,6 +8,8 @@ use Rattle.qa_convert.specs.declared.own.OwnKey.TheVariants.{Dialect, Forgot, Gu
 use Rattle.qa_convert.specs.declared.own.OwnKey.TheVariants.{Space}
 use Rattle.qa_format.specs.declared.line.Line.{Line}
 use Rattle.qa_format.specs.declared.line.Line.TheVariants as line
+use Rattle.qa_format.specs.format.Lines.{line_limit}
+use Rattle.qa_format.specs.format.Proper.{IsProperLine}
 use Rattle.qa_format.specs.format.Simple.{IsKept, is_ascii}
 use Rattle.qa_format.specs.format.Written.{event_pairs, header_pairs, members}
 
@@ -49,3 +51,16 @@ abbrev pub noted : Line → Members → List ℕ
 noted line.Blank own = []
 noted (line.Header s) own = compact_text (object (followed (members (header_pairs s)) own))
 noted (line.Event e) own = compact_text (object (followed (members (event_pairs e)) own))
+
+-- ---- a trace
+
+-- a line with its own keys
+abbrev pub Noted : Type 0
+Noted = Line × Members
+
+-- there is such a line, its keys are own ones, and it is no longer than a line may be
+abbrev pub IsWritten : Noted → Type 0
+IsWritten n = IsProperLine n.0 × AreOwn n.1 × (length (noted n.0 n.1) ≤ line_limit)
+
+abbrev pub texts_of : List Noted → List (List ℕ)
+texts_of ns = map (λ n. noted n.0 n.1) ns

@@ -11,7 +11,7 @@ mod place;
 
 pub use flight::{Flight, Flying};
 pub use guess::{Guess, put_guesses};
-pub use law::own_keys_are_passed_over;
-pub use noted::push_noted;
+pub use law::{own_keys_are_passed_over, written_lines_are_read};
+pub use noted::{NotedFault, push_noted};
 pub use own::{OwnKey, OwnKeys, put_text};
 pub use place::{Place, Stretch, put_stretch};

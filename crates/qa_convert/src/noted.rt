@@ -1,9 +1,12 @@
 //! A line, written with keys of the converter's own.
-ghost use Rattle.std.specs.Prelude.{◌≡◌, ◌≤◌, ◌++◌, ◌∷◌, [], OnOk, IfOk, length, string_bytes, true};
+ghost use Rattle.std.specs.Prelude.{◌≡◌, ◌≤◌, ◌<◌, ◌++◌, ◌∷◌, [], OnOk, IfOk, IfErr, length};
+ghost use Rattle.std.specs.Prelude.{string_bytes, true};
 ghost use Rattle.serde_json.specs.Data.{object};
 ghost use Rattle.serde_json.specs.View.{members_view};
 ghost use Rattle.serde_json.specs.Written.{compact_text};
 ghost use Rattle.qa_convert.specs.OwnKeys.{AreOwn, joined, noted};
+ghost use Rattle.qa_convert.specs.declared.noted.NotedFault.TheVariants.{TooLong};
+ghost use Rattle.qa_format.specs.format.Lines.{line_limit};
 ghost use Rattle.qa_format.specs.format.Written.{line_fits};
 
 use crate::own::OwnKeys;
@@ -11,21 +14,52 @@ use qa_format::Line;
 use qa_trace::write_line;
 use serde_json::Value;
 use std::alloc::{AllocError, Global};
+use thiserror::Error;
+
+/// The most bytes that a line has, its LF not counted.
+const LONGEST_LINE: usize = 65_536;
+
+/// Why a line was not written.
+#[derive(Clone, Copy, Debug, PartialEq, Eq, Error)]
+pub enum NotedFault {
+    /// Its text would be longer than a line of a trace may be.
+    #[error("a line of more than 65,536 bytes")]
+    TooLong,
+    /// Out of memory.
+    #[error("out of memory")]
+    OutOfMemory,
+}
+
+impl From<AllocError> for NotedFault {
+    ghost use Rattle.std.specs.Prelude.{◌≡◌};
+    ghost use Rattle.qa_convert.specs.declared.noted.NotedFault.TheVariants as faults;
+
+    ghost from_gives = { λ _ fault. fault ≡ faults.OutOfMemory };
+
+    fn from(_refused: AllocError) -> Self {
+        NotedFault::OutOfMemory
+    }
+}
 
 /// Appends the text of a line, with own keys behind its keys, and LF.
 ///
-/// Asks for an event that fits (`Event::fits`): no line says another. `AllocError` comes if it is
-/// out of memory; what was appended by then is of no use.
+/// Asks for an event that fits (`Event::fits`): no line says another. `TooLong` comes if the text
+/// has more than 65,536 bytes, and leaves what was there. `OutOfMemory` comes if it is out of
+/// memory; what was appended by then is of no use.
 pub fn push_noted(
     alloc: Global,
     line: &Line,
     own: OwnKeys,
     out: &mut Vec<u8>,
-) -> Result<(), AllocError>
+) -> Result<(), NotedFault>
     requires fitting { line_fits line.now ≡ true }
     requires own { AreOwn (members_view own.entries) }
-    ensures { OnOk result (out.new.items
+    ensures ok { OnOk result (out.new.items
         ≡ out.old.items ++ (noted line.now (members_view own.entries) ++ 10 ∷ [])) }
+    ensures short { OnOk result
+        (length (noted line.now (members_view own.entries)) ≤ line_limit) }
+    ensures too_long { IfErr result (λ fault. fault ≡ TooLong → (out.new.items ≡ out.old.items)
+        × (line_limit < length (noted line.now (members_view own.entries)))) }
 {
     let text = write_line(alloc, line)?;
     if own.is_empty() || text.is_empty() {
@@ -45,21 +79,39 @@ fn text_of(alloc: Global, own: OwnKeys) -> Result<String, AllocError>
 }
 
 /// Appends a text and LF.
-fn push_line(text: &[u8], out: &mut Vec<u8>) -> Result<(), AllocError>
-    ensures { OnOk result (out.new.items ≡ out.old.items ++ (text.now ++ 10 ∷ [])) }
+fn push_line(text: &[u8], out: &mut Vec<u8>) -> Result<(), NotedFault>
+    ensures ok { OnOk result (out.new.items ≡ out.old.items ++ (text.now ++ 10 ∷ [])) }
+    ensures short { OnOk result (length text.now ≤ line_limit) }
+    ensures too_long { IfErr result (λ fault. fault ≡ TooLong → (out.new.items ≡ out.old.items)
+        × (line_limit < length text.now)) }
 {
+    if LONGEST_LINE < text.len() {
+        return Err(NotedFault::TooLong);
+    }
     out.extend_from_slice(text)?;
-    out.extend_from_slice(b"\n")
+    out.extend_from_slice(b"\n")?;
+    Ok(())
 }
 
 /// Appends the text of an object with the members of another behind its own, and LF.
-fn push_joined(text: &[u8], own: &[u8], out: &mut Vec<u8>) -> Result<(), AllocError>
+fn push_joined(text: &[u8], own: &[u8], out: &mut Vec<u8>) -> Result<(), NotedFault>
     requires text { 1 ≤ length text.now }
     requires own { 1 ≤ length own.now }
-    ensures { OnOk result (out.new.items
+    ensures ok { OnOk result (out.new.items
         ≡ out.old.items ++ (joined text.now own.now ++ 10 ∷ [])) }
+    ensures short { OnOk result (length (joined text.now own.now) ≤ line_limit) }
+    ensures too_long { IfErr result (λ fault. fault ≡ TooLong → (out.new.items ≡ out.old.items)
+        × (line_limit < length (joined text.now own.now))) }
 {
+    if LONGEST_LINE < text.len() || LONGEST_LINE < own.len() {
+        return Err(NotedFault::TooLong);
+    }
+    if LONGEST_LINE < text.len() + own.len() - 1 {
+        return Err(NotedFault::TooLong);
+    }
     out.extend_from_slice(&text[..text.len() - 1])?;
     out.extend_from_slice(b",")?;
-    push_line(&own[1..], out)
+    out.extend_from_slice(&own[1..])?;
+    out.extend_from_slice(b"\n")?;
+    Ok(())
 }
