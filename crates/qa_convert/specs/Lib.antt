@@ -2,3 +2,4 @@ pub mod Flights
 pub mod Guesses
 pub mod OwnKeys
 pub mod Places
+pub mod Rounding

@@ -8,6 +8,7 @@ mod law;
 mod noted;
 mod own;
 mod place;
+mod rounding;
 
 pub use flight::{Flight, Flying};
 pub use guess::{Guess, put_guesses};
@@ -15,3 +16,4 @@ pub use law::{own_keys_are_passed_over, written_lines_are_read};
 pub use noted::{NotedFault, push_noted};
 pub use own::{OwnKey, OwnKeys, put_text};
 pub use place::{Place, Stretch, put_stretch};
+pub use rounding::{Age, Delays, Estimate, Reports, Sample};
