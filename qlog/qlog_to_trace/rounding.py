@@ -43,7 +43,7 @@ class Sample:
 
     def distance(self, before: dict[str, int], after: dict[str, int], is_subtracted: bool) -> int:
         """How far what follows from the reports before is from the report after it."""
-        adjusted = self.latest - self.delay if is_subtracted else self.latest
+        adjusted = max(0, self.latest - self.delay) if is_subtracted else self.latest
         held = before["smoothed_rtt"] + HALF
         smoothed = (7 * held + adjusted) // 8
         rttvar = (3 * (before["rttvar"] + HALF) + abs(held - adjusted)) // 4

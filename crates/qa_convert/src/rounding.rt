@@ -51,7 +51,11 @@ pub struct Sample {
 fn apart(here: u128, there: u128) -> u128
     ensures { result ≡ rounding.apart here there }
 {
-    if here < there { there - here } else { here - there }
+    if here < there {
+        there - here
+    } else {
+        here - there
+    }
 }
 
 impl Sample {
@@ -134,6 +138,7 @@ pub struct Reports {
 }
 
 /// The delays of acknowledgments, by the minimum of the samples so far. Contracts see that minimum.
+#[derive(Drop)]
 pub struct Delays {
     minimum: Option<u64>,
 }

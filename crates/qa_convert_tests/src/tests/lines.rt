@@ -2,12 +2,13 @@
 ghost use Rattle.std.specs.Prelude.{◌≡◌};
 ghost use Rattle.qa_format.specs.format.Written.{line_fits};
 
-use qa_base::{Event, PacketNumber, Permission, SentPacket, Space, Ticks, TimerKind};
+use qa_base::{Event, PacketNumber, Permission, SentPacket, Space, Span, Spans, Ticks, TimerKind};
 use qa_convert::{
-    Guess, OwnKey, OwnKeys, Place, Stretch, push_noted, put_guesses, put_stretch, put_text,
+    Guess, NotedFault, OwnKey, OwnKeys, Place, Stretch, push_noted, put_guesses, put_stretch,
+    put_text,
 };
 use qa_format::Line;
-use std::alloc::{AllocError, Global};
+use std::alloc::Global;
 
 /// A packet of 1,200 bytes.
 fn sent() -> Option<Line> {
@@ -41,7 +42,7 @@ fn at(first: u64, last: u64, is_guess: bool) -> Stretch {
 }
 
 /// The text of a line with no own keys.
-fn plain_text(alloc: Global, line: &Line) -> Result<Vec<u8>, AllocError> {
+fn plain_text(alloc: Global, line: &Line) -> Result<Vec<u8>, NotedFault> {
     let mut out = Vec::new(alloc);
     if fits(line) {
         push_noted(alloc, line, OwnKeys::new(alloc), &mut out)?;
@@ -65,7 +66,7 @@ fn noted_text(
     line: &Line,
     stretch: Stretch,
     guesses: &[Guess],
-) -> Result<Vec<u8>, AllocError> {
+) -> Result<Vec<u8>, NotedFault> {
     let mut own = OwnKeys::new(alloc);
     if !guesses.is_empty() {
         put_guesses(&mut own, alloc, guesses)?;
@@ -91,7 +92,7 @@ fn no_own_keys(rt: HostRuntime) {
 }
 
 /// Whether these bytes were written.
-fn is_text(text: &Result<Vec<u8>, AllocError>, expected: &[u8]) -> bool {
+fn is_text(text: &Result<Vec<u8>, NotedFault>, expected: &[u8]) -> bool {
     match text {
         Ok(text) => text.as_slice() == expected,
         Err(_) => false,
@@ -124,7 +125,7 @@ fn several_records(rt: HostRuntime) {
 }
 
 /// The own keys of a line in which their order is that of their names.
-fn own_text(alloc: Global) -> Result<Vec<u8>, AllocError> {
+fn own_text(alloc: Global) -> Result<Vec<u8>, NotedFault> {
     let mut own = OwnKeys::new(alloc);
     put_text(&mut own, alloc, OwnKey::Space, "app")?;
     put_text(&mut own, alloc, OwnKey::Dialect, "quic-go")?;
@@ -169,4 +170,53 @@ fn guesses_of_lines(rt: HostRuntime) {
     assert!(rt; Guess::ProbeByCount.is_of_line());
     assert!(rt; !Guess::LeaveProbe.is_of_line());
     assert!(rt; !Guess::TimerSpace.is_of_line());
+}
+
+/// A Lost line of so many ranges, each of one packet whose number has nine digits.
+fn lost(alloc: Global, count: u64, time: u64) -> Option<Line> {
+    let mut ranges = Spans::new(alloc);
+    for n in 0..count {
+        let number = PacketNumber::new(100_000_000 + 2 * n)?;
+        ranges.push(Span::new(number, number)?).ok()?;
+    }
+    Some(Line::Event(Event::Lost {
+        time: Ticks::new(time)?,
+        space: Space::App,
+        ranges,
+    }))
+}
+
+/// How long the line with so many ranges at this time is, LF included; or why it is not written.
+fn length_of(alloc: Global, count: u64, time: u64) -> Result<usize, NotedFault> {
+    match lost(alloc, count, time) {
+        None => Ok(0),
+        Some(line) => Ok(plain_text(alloc, &line)?.len()),
+    }
+}
+
+/// The same of a line that says where it is from.
+fn length_at(alloc: Global, count: u64) -> Result<usize, NotedFault> {
+    match lost(alloc, count, 1) {
+        None => Ok(0),
+        Some(line) => Ok(noted_text(alloc, &line, at(5, 5, false), &[])?.len()),
+    }
+}
+
+/// A range takes 22 bytes with its comma, of which the last has none, and the rest of the line 50
+/// and the digits of its time. With 2,976 ranges and 15 digits that is 65,536.
+#[test]
+fn longest_line(rt: HostRuntime) {
+    let time = 100_000_000_000_000;
+    assert_eq!(rt; length_of(rt.alloc(), 2_976, time), Ok(65_537));
+    assert_eq!(rt;
+        length_of(rt.alloc(), 2_976, 10 * time),
+        Err(NotedFault::TooLong)
+    );
+}
+
+/// Where a line is from takes 19 bytes here.
+#[test]
+fn longest_line_with_a_place(rt: HostRuntime) {
+    assert_eq!(rt; length_at(rt.alloc(), 2_975), Ok(65_520));
+    assert_eq!(rt; length_at(rt.alloc(), 2_976), Err(NotedFault::TooLong));
 }
