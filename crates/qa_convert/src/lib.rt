@@ -2,6 +2,7 @@
 //! where in the log they are from and what was guessed.
 #![tactic(auto)]
 
+mod dialects;
 mod flight;
 mod guess;
 mod law;
@@ -10,6 +11,7 @@ mod own;
 mod place;
 mod rounding;
 
+pub use dialects::{Absent, Dialect, GENERIC, Limited, dialect_named, dialect_of};
 pub use flight::{Flight, Flying};
 pub use guess::{Guess, put_guesses};
 pub use law::{own_keys_are_passed_over, written_lines_are_read};
