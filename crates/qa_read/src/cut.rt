@@ -7,10 +7,10 @@ use std::alloc::{AllocError, Global};
 use std::marker::Model;
 use thiserror::Error;
 
-/// Why a splitter returns no more lines.
+/// Why a cutter returns no more pieces, and a splitter no more lines.
 #[derive(Clone, Copy, Debug, PartialEq, Eq, Error)]
 pub enum SplitFault {
-    /// The next line has more bytes than a line may have.
+    /// The next piece, of a splitter the next line, has more bytes than it may have.
     #[error("line too long")]
     TooLong,
     /// Out of memory.
@@ -150,7 +150,7 @@ impl Cutter {
             → BeginsTooLong self.old }
         ensures memory { self.old.refused ≡ None → IsErrOf result SplitFault.OutOfMemory → ⊥ }
     {
-        // Not by `find` and `take`, which take 13 instructions more for each line of a trace.
+        // Not by `find` and `take`, which take 4 instructions more for each line of a trace.
         if let Some(fault) = self.refused {
             return Err(fault);
         }

@@ -48,34 +48,55 @@ fn loss_delay(header: &Header, latest_rtt: u64, smoothed_rtt: u64) -> u64
     estimate(latest_rtt, smoothed_rtt, 0).loss_delay(header)
 }
 
-/// Nine eighths of the greater round-trip time, rounded up, and the granularity at least.
-#[test]
-fn loss_delays(rt: HostRuntime) -> Result<(), Fail> {
-    let header = Header::new(Role::Server, 1200, None, None, None)?;
-    let delays = [
+/// A server's header.
+fn server() -> Option<Header> {
+    Header::new(Role::Server, 1200, None, None, None).ok()
+}
+
+/// Loss delays with the usual time threshold.
+fn usual_delays() -> Option<[u64; 4]> {
+    let header = server()?;
+    Some([
         loss_delay(&header, 0, 333_000),
         loss_delay(&header, 100_001, 100_000),
         loss_delay(&header, 100, 100),
         loss_delay(&header, 1_000_000_000_000_000, 1),
-    ];
-    assert_eq!(rt; delays, [374_625, 112_502, 1000, 1_125_000_000_000_000]);
-    Ok(())
+    ])
+}
+
+/// Whether they are those that were worked out.
+fn are_usual_delays_right() -> bool {
+    usual_delays() == Some([374_625, 112_502, 1000, 1_125_000_000_000_000])
+}
+
+/// Nine eighths of the greater round-trip time, rounded up, and the granularity at least.
+#[test]
+fn loss_delays(rt: HostRuntime) {
+    assert!(rt; are_usual_delays_right());
+}
+
+/// Loss delays with a time threshold of four round-trip times.
+fn patient_delays() -> Option<[u64; 2]> {
+    let options = Options {
+        time_threshold_eighths: 32,
+        ..Options::default()
+    };
+    let header = server()?.choosing(options).ok()?;
+    Some([
+        loss_delay(&header, 100_001, 100_000),
+        loss_delay(&header, 1_000_000_000_000_000, 1),
+    ])
+}
+
+/// Whether they are those that were worked out.
+fn are_patient_delays_right() -> bool {
+    patient_delays() == Some([400_004, 4_000_000_000_000_000])
 }
 
 /// As many eighths of the greater round-trip time as the header says.
 #[test]
-fn loss_delays_by_the_time_threshold(rt: HostRuntime) -> Result<(), Fail> {
-    let header = Header::new(Role::Server, 1200, None, None, None)?;
-    let patient = header.choosing(Options {
-        time_threshold_eighths: 32,
-        ..Options::default()
-    })?;
-    let delays = [
-        loss_delay(&patient, 100_001, 100_000),
-        loss_delay(&patient, 1_000_000_000_000_000, 1),
-    ];
-    assert_eq!(rt; delays, [400_004, 4_000_000_000_000_000]);
-    Ok(())
+fn loss_delays_by_the_time_threshold(rt: HostRuntime) {
+    assert!(rt; are_patient_delays_right());
 }
 
 /// The base of a probe timeout by these values, with timers of a millisecond.
@@ -91,16 +112,20 @@ fn persistent_after() -> u64 {
     estimate(0, 100_000, 50_000).persistent_after(Ticks::of(1000), Ticks::of(25_000))
 }
 
-/// The smoothed round-trip time and four times its variation, or the granularity.
-#[test]
-fn bases_of_probe_timeouts(rt: HostRuntime) {
-    let bases = [
+/// The bases of three probe timeouts, and how far apart lost packets are in persistent congestion.
+fn bases() -> [u64; 4] {
+    [
         pto_base(333_000, 166_500),
         pto_base(500, 100),
         pto_base(1_000_000_000_000_000, 1_000_000_000_000_000),
         persistent_after(),
-    ];
-    assert_eq!(rt; bases, [999_000, 1500, 5_000_000_000_000_000, 975_000]);
+    ]
+}
+
+/// The smoothed round-trip time and four times its variation, or the granularity.
+#[test]
+fn bases_of_probe_timeouts(rt: HostRuntime) {
+    assert!(rt; bases() == [999_000, 1500, 5_000_000_000_000_000, 975_000]);
 }
 
 /// An estimate after a first sample.
@@ -127,26 +152,32 @@ fn latest_less(delay: u64) -> u64 {
     rtt.latest_rtt.get()
 }
 
+/// Less a delay that leaves the least sample, and less one that would leave less.
+fn latest_less_delays() -> [u64; 2] {
+    [latest_less(20_000), latest_less(20_001)]
+}
+
 /// The delay is taken off the latest round-trip time too, unless that leaves less than the least.
 #[test]
 fn samples_less_the_delay(rt: HostRuntime) {
-    assert_eq!(rt;
-        [latest_less(20_000), latest_less(20_001)],
-        [100_000, 120_000]
-    );
+    assert!(rt; latest_less_delays() == [100_000, 120_000]);
+}
+
+/// The variation after a first sample, and three values after a second.
+fn sampled() -> [u64; 4] {
+    let (first, second) = (first_sample(100_001), second_sample());
+    [
+        first.rttvar.get(),
+        second.rttvar.get(),
+        second.smoothed_rtt.get(),
+        second.min_rtt.get(),
+    ]
 }
 
 /// A delay that would leave less than the least sample is not taken off.
 #[test]
 fn samples(rt: HostRuntime) {
-    let (first, second) = (first_sample(100_001), second_sample());
-    let found = [
-        first.rttvar.get(),
-        second.rttvar.get(),
-        second.smoothed_rtt.get(),
-        second.min_rtt.get(),
-    ];
-    assert_eq!(rt; found, [50_000, 42_500, 102_500, 100_000]);
+    assert!(rt; sampled() == [50_000, 42_500, 102_500, 100_000]);
 }
 
 /// A window in bytes and a slow start threshold, in a recovery that began then.
@@ -179,25 +210,29 @@ fn lost_outside_recovery(window: u64) -> Reno {
     lost_at(reno, 0)
 }
 
+/// Whether a loss makes this of a window and its threshold.
+fn falls_to(window: u64, fallen: u64, ssthresh: u64) -> bool {
+    lost_outside_recovery(window) == in_recovery(fallen, Some(ssthresh), 900)
+}
+
 /// The threshold is half the window, and the window that or two datagrams.
 #[test]
 fn windows_after_a_loss(rt: HostRuntime) {
-    let found = [lost_outside_recovery(4000), lost_outside_recovery(13_201)];
-    assert_eq!(rt;
-        found,
-        [
-            in_recovery(2400, Some(2000), 900),
-            in_recovery(6600, Some(6600), 900)
-        ]
-    );
+    assert!(rt; falls_to(4000, 2400, 2000));
+    assert!(rt; falls_to(13_201, 6600, 6600));
+}
+
+/// Whether a loss in a recovery that began at 500 changes nothing where the packet was sent then,
+/// and enters recovery again where it was sent after that.
+fn is_entered_by_later_packets() -> bool {
+    let before = in_recovery(12_000, None, 500);
+    lost_at(before, 500) == before && lost_at(before, 501) == in_recovery(6000, Some(6000), 900)
 }
 
 /// Only a packet that was sent after recovery began enters it again.
 #[test]
 fn losses_in_recovery(rt: HostRuntime) {
-    let before = in_recovery(12_000, None, 500);
-    let found = [lost_at(before, 500), lost_at(before, 501)];
-    assert_eq!(rt; found, [before, in_recovery(6000, Some(6000), 900)]);
+    assert!(rt; is_entered_by_later_packets());
 }
 
 /// The window after an acknowledgment of so many bytes.
@@ -216,13 +251,17 @@ fn grown(window: u64, ssthresh: Option<u64>, size: u64) -> u64
     reno.window
 }
 
-/// At the threshold the window grows by a part of a datagram, and below it by the packet.
-#[test]
-fn windows_after_growth(rt: HostRuntime) {
-    let windows = [
+/// Windows at the threshold, below it, and without one.
+fn grown_windows() -> [u64; 3] {
+    [
         grown(6000, Some(6000), 1001),
         grown(5999, Some(6000), 1200),
         grown(4_611_686_018_427_387_904, None, 65_527),
-    ];
-    assert_eq!(rt; windows, [6200, 7199, 4_611_686_018_427_453_431]);
+    ]
+}
+
+/// At the threshold the window grows by a part of a datagram, and below it by the packet.
+#[test]
+fn windows_after_growth(rt: HostRuntime) {
+    assert!(rt; grown_windows() == [6200, 7199, 4_611_686_018_427_453_431]);
 }

@@ -1,10 +1,10 @@
 //! An audit of bytes that are handed in, piece by piece.
-use qa_base::{Header, PacketNumber, Role, Span, Totals};
+use crate::tests::events::span;
+use qa_base::{Header, Role, Totals};
 use qa_check::{AuditFault, Auditor, Fault, Line, Progress, Verdict, verdict_line};
 use qa_embed::{Phase, Session};
 use qa_sender::Running;
 use std::alloc::Global;
-use std::test::Fail;
 
 /// A header and the beginning of a packet.
 const FRONT: &str =
@@ -16,23 +16,20 @@ const REST: &str =
 
 /// What an auditor answers to a trace in two pieces, to its end, and to a piece behind it.
 fn audit_in_pieces(
-    alloc: Global,
+    auditor: &mut Auditor<Running>,
 ) -> (
     [Result<Progress, AuditFault>; 3],
     Result<Verdict, AuditFault>,
 ) {
-    let mut auditor = Auditor::<Running>::new(alloc);
     let front = auditor.feed(FRONT.as_bytes());
     let rest = auditor.feed(REST.as_bytes());
     let ended = auditor.finish();
     ([front, rest, auditor.feed(REST.as_bytes())], ended)
 }
 
-/// A trace comes in two pieces, cut inside a line. Nothing is fixed before its end, and nothing is
-/// taken behind it.
-#[test]
-fn a_trace_comes_in_two_pieces(rt: HostRuntime) {
-    let verdict = Verdict::Accepted(Totals {
+/// The verdict of the trace.
+fn accepted() -> Verdict {
+    Verdict::Accepted(Totals {
         events: 1,
         window: 12000,
         ssthresh: None,
@@ -43,12 +40,14 @@ fn a_trace_comes_in_two_pieces(rt: HostRuntime) {
         rttvar: 166_500,
         pto_count: 0,
         owed: 0,
-    });
+    })
+}
+
+/// Whether nothing is fixed before the end of the trace, and nothing is taken behind it.
+fn is_fixed_at_its_end(auditor: &mut Auditor<Running>) -> bool {
+    let verdict = accepted();
     let (open, fixed) = (Ok(Progress::Open), Ok(Progress::Fixed(verdict)));
-    assert_eq!(rt;
-        audit_in_pieces(rt.alloc()),
-        ([open, open, fixed], Ok(verdict))
-    );
+    audit_in_pieces(auditor) == ([open, open, fixed], Ok(verdict))
 }
 
 /// Hands in a header and the beginning of a line: what is answered to each, how far the auditor is
@@ -79,24 +78,46 @@ fn is_unreadable(auditor: &mut Auditor<Running>, alloc: Global) -> bool {
     }
 }
 
-/// What is answered to a header and to the beginning of a line, and the report then.
-fn audit_by_a_header(
-    alloc: Global,
-    header: Header,
-) -> Option<([Result<Progress, AuditFault>; 3], bool, bool)> {
+/// Whether the audit is open after each of these, and the report is that of the line behind them.
+fn takes_a_header(auditor: &mut Auditor<Running>, alloc: Global, header: Header) -> bool {
+    let open = Ok(Progress::Open);
+    begin_by_a_header(auditor, header) == Some(([open, open, open], true))
+        && is_unreadable(auditor, alloc)
+}
+
+/// Whether a new auditor does so, or so, by whether it is handed a header. Only this function holds
+/// one, since it takes long to prove that it is dropped.
+fn audits(alloc: Global, header: Option<Header>) -> bool {
     let mut auditor = Auditor::<Running>::new(alloc);
-    let (answers, is_begun) = begin_by_a_header(&mut auditor, header)?;
-    Some((answers, is_begun, is_unreadable(&mut auditor, alloc)))
+    match header {
+        Some(header) => takes_a_header(&mut auditor, alloc, header),
+        None => is_fixed_at_its_end(&mut auditor),
+    }
+}
+
+/// A trace comes in two pieces, cut inside a line.
+#[test]
+fn a_trace_comes_in_two_pieces(rt: HostRuntime) {
+    assert!(rt; audits(rt.alloc(), None));
+}
+
+/// A client's header.
+fn client() -> Option<Header> {
+    Header::new(Role::Client, 1200, None, None, None).ok()
+}
+
+/// Whether a new auditor takes a client's header.
+fn takes_a_new_header(alloc: Global) -> bool {
+    match client() {
+        Some(header) => audits(alloc, Some(header)),
+        None => false,
+    }
 }
 
 /// A header comes by what its line says, where no line was begun, and is the first line.
 #[test]
-fn a_header_comes_by_what_it_says(rt: HostRuntime) -> Result<(), Fail> {
-    let header = Header::new(Role::Client, 1200, None, None, None)?;
-    let open = Ok(Progress::Open);
-    let found = audit_by_a_header(rt.alloc(), header);
-    assert_eq!(rt; found, Some(([open, open, open], true, true)));
-    Ok(())
+fn a_header_comes_by_what_it_says(rt: HostRuntime) {
+    assert!(rt; takes_a_new_header(rt.alloc()));
 }
 
 /// What a session answers to a blank line, to its end, and to a piece behind it.
@@ -106,41 +127,30 @@ fn finish_a_session(session: &mut Session) -> [Phase; 3] {
     [begun, ended, session.feed(FRONT.as_bytes())]
 }
 
-/// The same of a new session, with its verdict before and after, and whether it is finished.
-fn finish_a_new_session(alloc: Global) -> ([Phase; 3], [Option<Verdict>; 2], bool) {
-    let mut session = Session::new(alloc);
+/// The same, with its verdict before and after, and whether it is finished.
+fn finish_a_new_session(session: &mut Session) -> ([Phase; 3], [Option<Verdict>; 2], bool) {
     let before = session.verdict();
-    let phases = finish_a_session(&mut session);
+    let phases = finish_a_session(session);
     (phases, [before, session.verdict()], session.is_finished())
 }
 
-/// A session is open, and then finished; what comes behind changes nothing.
-#[test]
-fn a_session_is_finished_once(rt: HostRuntime) {
+/// Whether it is open, and then finished, and what comes behind changes nothing.
+fn is_finished_once(session: &mut Session) -> bool {
     let none = Verdict::Unreadable(2, Fault::HeaderPlace, None);
     let phases = [Phase::Open, Phase::Finished(none), Phase::Finished(none)];
-    let found = finish_a_new_session(rt.alloc());
-    assert_eq!(rt; found, (phases, [None, Some(none)], true));
+    finish_a_new_session(session) == (phases, [None, Some(none)], true)
 }
 
 /// How many ranges stand in a list that the session lends, once one was put in, and in the next
 /// that it lends once that list was taken back.
 fn lend_twice(session: &mut Session, alloc: Global) -> Option<(usize, usize)> {
-    let span = Span::new(PacketNumber::new(7)?, PacketNumber::new(9)?)?;
+    let span = span(7, 9)?;
     let mut ranges = session.lend_ranges(alloc);
     ranges.push(span).ok()?;
     let count = ranges.as_slice().len();
     session.take_back(alloc, ranges);
     let next = session.lend_ranges(alloc);
     Some((count, next.as_slice().len()))
-}
-
-/// A list of ranges that was taken back is lent without them.
-#[test]
-fn ranges_are_lent_empty(rt: HostRuntime) {
-    let alloc = rt.alloc();
-    let mut session = Session::new(alloc);
-    assert_eq!(rt; lend_twice(&mut session, alloc), Some((1, 0)));
 }
 
 /// The line of a header as it is written, and the beginning of another line.
@@ -161,16 +171,63 @@ fn is_recorded(session: &mut Session, header: Header) -> bool {
     }
 }
 
+/// What a new session is to do.
+#[derive(Clone, Copy)]
+enum Task {
+    Finish,
+    Lend,
+    Record,
+    RecordNothing,
+}
+
+/// Whether a session does this.
+fn does(session: &mut Session, alloc: Global, header: Header, task: Task) -> bool {
+    match task {
+        Task::Finish => is_finished_once(session),
+        Task::Lend => lend_twice(session, alloc) == Some((1, 0)),
+        Task::Record => is_recorded(session, header),
+        Task::RecordNothing => !is_recorded(session, header),
+    }
+}
+
+/// The same of a session that is its own. Only this function holds one, since it takes long to
+/// prove that it is dropped.
+fn does_alone(session: Session, alloc: Global, header: Header, task: Task) -> bool {
+    let mut session = session;
+    does(&mut session, alloc, header, task)
+}
+
+/// Whether a new session that records nothing does this.
+fn new_does(alloc: Global, task: Task) -> bool {
+    match client() {
+        Some(header) => does_alone(Session::new(alloc), alloc, header, task),
+        None => false,
+    }
+}
+
+/// Whether one that records keeps what it is handed.
+fn recording_keeps(alloc: Global) -> bool {
+    match client() {
+        Some(header) => does_alone(Session::recording(alloc), alloc, header, Task::Record),
+        None => false,
+    }
+}
+
+/// A session is open, and then finished; what comes behind changes nothing.
+#[test]
+fn a_session_is_finished_once(rt: HostRuntime) {
+    assert!(rt; new_does(rt.alloc(), Task::Finish));
+}
+
+/// A list of ranges that was taken back is lent without them.
+#[test]
+fn ranges_are_lent_empty(rt: HostRuntime) {
+    assert!(rt; new_does(rt.alloc(), Task::Lend));
+}
+
 /// A session that records keeps the text of what it is handed, and another keeps none.
 #[test]
-fn a_session_records_what_it_is_handed(rt: HostRuntime) -> Result<(), Fail> {
-    let header = Header::new(Role::Client, 1200, None, None, None)?;
-    let mut recording = Session::recording(rt.alloc());
-    let mut other = Session::new(rt.alloc());
-    let found = [
-        is_recorded(&mut recording, header),
-        is_recorded(&mut other, header),
-    ];
-    assert_eq!(rt; found, [true, false]);
-    Ok(())
+fn a_session_records_what_it_is_handed(rt: HostRuntime) {
+    assert!(rt; recording_keeps(rt.alloc()));
+    assert!(rt; new_does(rt.alloc(), Task::RecordNothing));
 }

@@ -63,7 +63,7 @@ fn a_command_runs(rt: HostRuntime) -> Result<(), Fail> {
         runs(&rt, &["explain", "x\ny\u{E9}\u{202E}"], 3, "", HIDDEN),
         runs(&rt, &["help"], 64, "", USAGE),
     ];
-    assert_eq!(rt; found, [true, true, true, true]);
+    assert!(rt; found == [true, true, true, true]);
     Ok(())
 }
 
@@ -89,8 +89,8 @@ fn refuses_two_files(alloc: Global) -> Option<bool> {
 
 #[test]
 fn arguments_are_parsed(rt: HostRuntime) {
-    let found = [explains_a_file(rt.alloc()), refuses_two_files(rt.alloc())];
-    assert_eq!(rt; found, [Some(true), Some(true)]);
+    assert!(rt; explains_a_file(rt.alloc()) == Some(true));
+    assert!(rt; refuses_two_files(rt.alloc()) == Some(true));
 }
 
 /// The status of a refusal for want of memory, and whether it says so.
@@ -104,12 +104,16 @@ fn refuse_without_memory(alloc: Global) -> (u8, bool) {
     )
 }
 
-#[test]
-fn an_end_has_a_status(rt: HostRuntime) {
-    let statuses = [
+/// The statuses of a trace that is unreadable, and of a failed write.
+fn statuses() -> [u8; 2] {
+    [
         status(&Ok(Outcome::Unreadable)),
         status(&Err(AuditFault::Write)),
-    ];
-    assert_eq!(rt; statuses, [2, 3]);
-    assert_eq!(rt; refuse_without_memory(rt.alloc()), (3, true));
+    ]
+}
+
+#[test]
+fn an_end_has_a_status(rt: HostRuntime) {
+    assert!(rt; statuses() == [2, 3]);
+    assert!(rt; refuse_without_memory(rt.alloc()) == (3, true));
 }

@@ -1,9 +1,8 @@
 //! How much the ledger that passes once over events keeps, worked out by hand, over histories too
 //! that are too long for a trace.
+use crate::tests::events::{ack, lost};
 use qa_base::limits::MAX_LINES;
-use qa_base::{
-    Ack, Event, Header, PacketNumber, Permission, Role, SentPacket, Space, Span, Spans, Ticks,
-};
+use qa_base::{Event, Header, PacketNumber, Permission, Role, SentPacket, Space, Ticks};
 use qa_ledger::Ledger;
 use qa_sender::Running;
 use std::alloc::Global;
@@ -21,8 +20,6 @@ const UNACKNOWLEDGED: u64 = 500_000;
 /// A ledger, and how many events it was asked to admit.
 #[derive(Drop)]
 struct History {
-    alloc: Global,
-    header: Header,
     ledger: Running,
     asked: u64,
     /// Whether each event was there, fitted and was admitted.
@@ -43,17 +40,10 @@ impl History {
     /// No events, under this header.
     fn new(alloc: Global, header: Header) -> History {
         History {
-            alloc,
-            header,
             ledger: Running::start(alloc, header),
             asked: 0,
             is_whole: true,
         }
-    }
-
-    /// Begins anew.
-    fn restart(&mut self) {
-        *self = History::new(self.alloc, self.header);
     }
 
     /// Has the ledger admit an event, and tells whether it did.
@@ -81,12 +71,6 @@ impl History {
         }
         None
     }
-}
-
-/// A server's history, before any event.
-fn server(alloc: Global) -> Option<History> {
-    let header = Header::new(Role::Server, 1200, None, None, None).ok()?;
-    Some(History::new(alloc, header))
 }
 
 /// A packet of 1,200 bytes by leave of the window, if it is in flight.
@@ -118,64 +102,24 @@ fn small(time: u64, number: u64) -> Option<Event> {
     }
 }
 
-/// The numbers from `lo` to `hi`, as the ranges of a line.
-fn ranges(alloc: Global, lo: u64, hi: u64) -> Option<Spans> {
-    let span = Span::new(PacketNumber::new(lo)?, PacketNumber::new(hi)?)?;
-    let mut ranges = Spans::new(alloc);
-    ranges.push(span).ok()?;
-    Some(ranges)
-}
-
-/// An acknowledgment of one packet.
-fn ack(alloc: Global, time: u64, number: u64) -> Option<Event> {
-    let time = Ticks::new(time)?;
-    Some(Event::Ack(Ack {
-        time,
-        space: Space::App,
-        ranges: ranges(alloc, number, number)?,
-        delay: 0,
-        app_limited: false,
-    }))
-}
-
-/// A Lost line of the packets from `lo` to `hi`.
-fn lost(alloc: Global, time: u64, lo: u64, hi: u64) -> Option<Event> {
-    let time = Ticks::new(time)?;
-    Some(Event::Lost {
-        time,
-        space: Space::App,
-        ranges: ranges(alloc, lo, hi)?,
-    })
-}
-
 /// Has the ledger admit an event, and returns how much it keeps then.
 fn kept_after(history: &mut History, event: Option<Event>) -> Option<u128> {
     history.take(event);
     history.kept()
 }
 
-/// How much a ledger keeps after each of four events.
-fn kept_after_each(alloc: Global) -> Option<[Option<u128>; 4]> {
-    let mut history = server(alloc)?;
-    Some([
-        kept_after(&mut history, sent(0, 0)),
-        kept_after(&mut history, sent(0, 1)),
-        kept_after(&mut history, ack(alloc, 100_000, 0)),
-        kept_after(&mut history, ack(alloc, 100_000, 1)),
-    ])
-}
-
-/// Two packets are sent, and then acknowledged in turn.
-#[test]
-fn what_is_acknowledged_is_not_kept(rt: HostRuntime) {
-    // A packet, its entry, and one run of numbers; the numbers that were sent stay.
-    let kept = [Some(3), Some(5), Some(3), Some(1)];
-    assert_eq!(rt; kept_after_each(rt.alloc()), Some(kept));
+/// How much a ledger keeps after each of four events: two packets, and then their acknowledgments.
+fn kept_after_each(history: &mut History, alloc: Global) -> [Option<u128>; 4] {
+    [
+        kept_after(history, sent(0, 0)),
+        kept_after(history, sent(0, 1)),
+        kept_after(history, ack(alloc, 100_000, 0)),
+        kept_after(history, ack(alloc, 100_000, 1)),
+    ]
 }
 
 /// Of ten packets the fourth is acknowledged, and the first declared lost.
 fn kept_after_a_loss(history: &mut History, alloc: Global) -> Option<u128> {
-    history.restart();
     for n in 0..10 {
         history.take(sent(0, n));
     }
@@ -185,7 +129,6 @@ fn kept_after_a_loss(history: &mut History, alloc: Global) -> Option<u128> {
 
 /// Of packets sent after the first sample, the last is acknowledged, and those before it are lost.
 fn kept_after_all_is_lost(history: &mut History, alloc: Global) -> Option<u128> {
-    history.restart();
     history.take(sent(0, 0));
     history.take(ack(alloc, 100_000, 0));
     history.take(sent(200_000, 1));
@@ -195,70 +138,38 @@ fn kept_after_all_is_lost(history: &mut History, alloc: Global) -> Option<u128> 
     kept_after(history, lost(alloc, 1_275_002, 1, 2))
 }
 
-/// Packets each of which is acknowledged by itself, before the next is sent.
-fn kept_after_acknowledgments(history: &mut History, alloc: Global) -> Option<u128> {
-    history.restart();
-    for n in 0..ACKNOWLEDGED {
+/// Packets from this number on, each of which is acknowledged by itself before the next is sent.
+fn acknowledge_each(history: &mut History, alloc: Global, first: u64) {
+    for n in first..ACKNOWLEDGED {
         history.take(sent(2 * n, n));
         history.take(ack(alloc, 2 * n + 1, n));
     }
+}
+
+/// Packets each of which is acknowledged by itself.
+fn kept_after_acknowledgments(history: &mut History, alloc: Global) -> Option<u128> {
+    acknowledge_each(history, alloc, 0);
     history.kept()
 }
 
 /// Packets at one time that are not in flight, so that nothing limits them, and none of which is
 /// acknowledged.
 fn kept_after_packets(history: &mut History) -> Option<u128> {
-    history.restart();
     for n in 0..UNACKNOWLEDGED {
         history.take(packet(0, n, false, false));
     }
     history.kept()
 }
 
-/// How much a ledger keeps after each of these histories.
-fn kept_of(history: &mut History, alloc: Global) -> [Option<u128>; 4] {
-    [
-        kept_after_a_loss(history, alloc),
-        kept_after_all_is_lost(history, alloc),
-        kept_after_acknowledgments(history, alloc),
-        kept_after_packets(history),
-    ]
-}
-
-/// The same, one in the place of the other.
-fn kept_of_histories(alloc: Global) -> Option<[Option<u128>; 4]> {
-    let mut history = server(alloc)?;
-    Some(kept_of(&mut history, alloc))
-}
-
-/// What is settled is not kept, however long the history, and what is open is.
-#[test]
-fn what_is_open_is_kept(rt: HostRuntime) {
-    let kept = [Some(18), Some(2), Some(1), Some(1_000_001)];
-    assert_eq!(rt; kept_of_histories(rt.alloc()), Some(kept));
-}
-
 /// After a packet that is not in flight, others are sent and acknowledged one by one, and it is
 /// acknowledged at the end. How much a ledger keeps before that and after it.
-fn kept_after_a_stray(alloc: Global) -> Option<[Option<u128>; 2]> {
-    let mut history = server(alloc)?;
+fn kept_after_a_stray(history: &mut History, alloc: Global) -> [Option<u128>; 2] {
     history.take(packet(0, 0, false, false));
-    for n in 1..ACKNOWLEDGED {
-        history.take(sent(2 * n, n));
-        history.take(ack(alloc, 2 * n + 1, n));
-    }
-    let kept = history.kept();
-    Some([
-        kept,
-        kept_after(&mut history, ack(alloc, 2 * ACKNOWLEDGED, 0)),
-    ])
-}
-
-/// A packet that nothing but an acknowledgment asks for keeps itself, and not those after it.
-#[test]
-fn what_is_set_aside_keeps_no_others(rt: HostRuntime) {
-    let kept = [Some(2), Some(1)];
-    assert_eq!(rt; kept_after_a_stray(rt.alloc()), Some(kept));
+    acknowledge_each(history, alloc, 1);
+    [
+        history.kept(),
+        kept_after(history, ack(alloc, 2 * ACKNOWLEDGED, 0)),
+    ]
 }
 
 /// Three packets are sent, and 20 ms later a fourth, whose acknowledgment comes after 100 ms. That
@@ -275,17 +186,80 @@ fn take_lossy_round(history: &mut History, alloc: Global, round: u64) {
 }
 
 /// How much a ledger keeps when most of the packets after one that is not in flight were lost.
-fn kept_after_lossy_rounds(alloc: Global) -> Option<Option<u128>> {
-    let mut history = server(alloc)?;
+fn kept_after_lossy_rounds(history: &mut History, alloc: Global) -> Option<u128> {
     history.take(packet(0, 0, false, false));
     for round in 0..LOSSY {
-        take_lossy_round(&mut history, alloc, round);
+        take_lossy_round(history, alloc, round);
     }
-    Some(history.kept())
+    history.kept()
+}
+
+/// Events from the beginning of a history on.
+#[derive(Clone, Copy)]
+enum Course {
+    InTurn,
+    OneLost,
+    AllLost,
+    AllAcknowledged,
+    NoneAcknowledged,
+    OneStray,
+    MostLost,
+}
+
+/// Whether a ledger keeps as much after these events as was worked out.
+fn keeps_as_much(history: &mut History, alloc: Global, course: Course) -> bool {
+    match course {
+        // A packet, its entry, and one run of numbers; the numbers that were sent stay.
+        Course::InTurn => {
+            kept_after_each(history, alloc) == [Some(3), Some(5), Some(3), Some(1)]
+        }
+        Course::OneLost => kept_after_a_loss(history, alloc) == Some(18),
+        Course::AllLost => kept_after_all_is_lost(history, alloc) == Some(2),
+        Course::AllAcknowledged => kept_after_acknowledgments(history, alloc) == Some(1),
+        Course::NoneAcknowledged => kept_after_packets(history) == Some(1_000_001),
+        Course::OneStray => kept_after_a_stray(history, alloc) == [Some(2), Some(1)],
+        Course::MostLost => kept_after_lossy_rounds(history, alloc) == Some(2),
+    }
+}
+
+/// The same of a new history. Only this function holds one, since it takes long to prove that it is
+/// dropped.
+fn keeps_under(alloc: Global, header: Header, course: Course) -> bool {
+    let mut history = History::new(alloc, header);
+    keeps_as_much(&mut history, alloc, course)
+}
+
+/// The same of a server's history.
+fn keeps(alloc: Global, course: Course) -> bool {
+    match Header::new(Role::Server, 1200, None, None, None) {
+        Ok(header) => keeps_under(alloc, header, course),
+        Err(_) => false,
+    }
+}
+
+/// Two packets are sent, and then acknowledged in turn.
+#[test]
+fn what_is_acknowledged_is_not_kept(rt: HostRuntime) {
+    assert!(rt; keeps(rt.alloc(), Course::InTurn));
+}
+
+/// What is settled is not kept, however long the history, and what is open is.
+#[test]
+fn what_is_open_is_kept(rt: HostRuntime) {
+    assert!(rt; keeps(rt.alloc(), Course::OneLost));
+    assert!(rt; keeps(rt.alloc(), Course::AllLost));
+    assert!(rt; keeps(rt.alloc(), Course::AllAcknowledged));
+    assert!(rt; keeps(rt.alloc(), Course::NoneAcknowledged));
+}
+
+/// A packet that nothing but an acknowledgment asks for keeps itself, and not those after it.
+#[test]
+fn what_is_set_aside_keeps_no_others(rt: HostRuntime) {
+    assert!(rt; keeps(rt.alloc(), Course::OneStray));
 }
 
 /// Packets that were declared lost are not kept either behind one that is set aside.
 #[test]
 fn what_is_set_aside_keeps_no_lost_ones(rt: HostRuntime) {
-    assert_eq!(rt; kept_after_lossy_rounds(rt.alloc()), Some(Some(2)));
+    assert!(rt; keeps(rt.alloc(), Course::MostLost));
 }

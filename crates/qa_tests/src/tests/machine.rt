@@ -2,9 +2,8 @@
 ghost use Rattle.std.specs.Prelude.{◌<◌, ◌≤◌, ◌+◌};
 ghost use Rattle.qa_base.specs.values.Limits.{max_lines};
 
-use qa_base::{
-    Ack, Event, Header, PacketNumber, Permission, Role, Rule, SentPacket, Space, Span, Spans, Ticks,
-};
+use crate::tests::events::{ack as ack_at, lost};
+use qa_base::{Event, Header, PacketNumber, Permission, Role, Rule, SentPacket, Space, Ticks};
 use qa_ledger::{Cause, Explains, Ledger, LedgerFault, Owed, Tolerates};
 use qa_sender::Running;
 use std::alloc::Global;
@@ -33,38 +32,9 @@ fn probe(number: u64) -> Option<Event> {
     packet(number, Permission::Probe)
 }
 
-/// The range of one number.
-fn span(number: u64) -> Option<Span> {
-    let number = PacketNumber::new(number)?;
-    Span::new(number, number)
-}
-
-/// The ranges of one number.
-fn ranges(alloc: Global, number: u64) -> Option<Spans> {
-    let span = span(number)?;
-    let mut ranges = Spans::new(alloc);
-    ranges.push(span).ok()?;
-    Some(ranges)
-}
-
 /// An acknowledgment of one packet after 100 ms.
 fn ack(alloc: Global, number: u64) -> Option<Event> {
-    Some(Event::Ack(Ack {
-        time: Ticks::of(100_000),
-        space: Space::App,
-        ranges: ranges(alloc, number)?,
-        delay: 0,
-        app_limited: false,
-    }))
-}
-
-/// A Lost line of one packet, after 100 ms.
-fn lost(alloc: Global, number: u64) -> Option<Event> {
-    Some(Event::Lost {
-        time: Ticks::of(100_000),
-        space: Space::App,
-        ranges: ranges(alloc, number)?,
-    })
+    ack_at(alloc, 100_000, number)
 }
 
 /// Hands an event to the ledger; None where there is none, or it does not fit.
@@ -93,11 +63,6 @@ fn a_loss(rt: HostRuntime) -> Result<(), Fail> {
     let answer = judged(&mut ledger, ack(rt.alloc(), 0));
     assert_eq!(rt; answer, Some(Err(LedgerFault::Broken(Rule::LossOwed))));
     Ok(())
-}
-
-/// A server's header.
-fn server() -> Option<Header> {
-    Header::new(Role::Server, 1200, None, None, None).ok()
 }
 
 /// Whether packet 0 is owed in the application space, and packet 3 is not.
@@ -137,21 +102,14 @@ fn tells(ledger: &Running, event: &Event, first: PacketNumber, last: PacketNumbe
     }
 }
 
-/// The same of a Lost line of packet 3, where packet 0 is owed.
-fn tells_of_a_loss(alloc: Global) -> Option<bool> {
+/// Whether a new ledger tells so of a Lost line of packet 3, where packet 0 is owed.
+fn tells_of_a_loss(ledger: &mut Running, alloc: Global) -> Option<bool>
+    requires few { ledger.old.connection.events + 2 < max_lines }
+{
     let (first, last) = (PacketNumber::new(0)?, PacketNumber::new(3)?);
-    let header = server()?;
-    let event = lost(alloc, 3)?;
-    let mut ledger = Running::start(alloc, header);
-    lose(&mut ledger, alloc);
-    Some(tells(&ledger, &event, first, last))
-}
-
-/// A Lost line that names another packet than the one that is owed: the ledger says which is not
-/// named, and which is not owed.
-#[test]
-fn a_cause(rt: HostRuntime) {
-    assert_eq!(rt; tells_of_a_loss(rt.alloc()), Some(true));
+    lose(ledger, alloc);
+    let event = lost(alloc, 100_000, 3, 3)?;
+    Some(tells(ledger, &event, first, last))
 }
 
 /// Has the ledger bear an event; None where there is none, or it does not fit.
@@ -166,42 +124,95 @@ fn tolerated(ledger: &mut Running, event: Option<Event>) -> Option<Result<(), Le
     Some(ledger.tolerate(&event))
 }
 
+/// The first of these rules.
+fn first_of(rules: &[Rule]) -> Option<Rule> {
+    rules.first().copied()
+}
+
+/// The first rule that an event breaks.
+fn first_violation(ledger: &Running, alloc: Global, event: &Event) -> Option<Rule> {
+    match ledger.violations(alloc, event) {
+        Ok(found) => first_of(found.as_slice()),
+        Err(_) => None,
+    }
+}
+
 /// The first rule that a probe breaks.
-fn first_violation(ledger: &Running, alloc: Global) -> Option<Rule> {
-    let found = ledger.violations(alloc, &probe(0)?).ok()?;
-    found.first().copied()
-}
-
-/// The first rule that a probe before any packet breaks.
-fn first_violation_at_the_start(alloc: Global) -> Option<Rule> {
-    let header = server()?;
-    first_violation(&Running::start(alloc, header), alloc)
-}
-
-/// A probe before any probe timeout breaks V8, past-probe.
-#[test]
-fn a_probe_without_a_timeout_violates(rt: HostRuntime) {
-    let violation = first_violation_at_the_start(rt.alloc());
-    assert_eq!(rt; violation, Some(Rule::PastProbe));
+fn first_violation_of_a_probe(ledger: &Running, alloc: Global) -> Option<Rule> {
+    match &probe(0) {
+        Some(event) => first_violation(ledger, alloc, event),
+        None => None,
+    }
 }
 
 /// What a ledger answers to a probe and to another of the same number, and the bytes in flight
 /// then.
-fn tolerated_twice(alloc: Global) -> Option<([Option<Result<(), LedgerFault>>; 2], u64)> {
-    let header = server()?;
+fn tolerated_twice(ledger: &mut Running) -> ([Option<Result<(), LedgerFault>>; 2], u64)
+    requires few { ledger.old.connection.events + 1 < max_lines }
+{
+    let answers = [tolerated(ledger, probe(0)), tolerated(ledger, probe(0))];
+    (answers, ledger.totals().bytes_in_flight)
+}
+
+/// Whether the first is borne, and the second is not and changes nothing.
+fn tolerates_the_first(ledger: &mut Running) -> bool
+    requires few { ledger.old.connection.events + 1 < max_lines }
+{
+    let refused = Err(LedgerFault::Broken(Rule::NumberNotHigher));
+    tolerated_twice(ledger) == ([Some(Ok(())), Some(refused)], 1200)
+}
+
+/// What a new ledger is asked.
+#[derive(Clone, Copy)]
+enum Question {
+    Cause,
+    Violation,
+    Toleration,
+}
+
+/// Whether a new ledger answers as was worked out.
+fn answers(ledger: &mut Running, alloc: Global, question: Question) -> bool
+    requires few { ledger.old.connection.events + 2 < max_lines }
+{
+    match question {
+        Question::Cause => tells_of_a_loss(ledger, alloc) == Some(true),
+        // V8, past-probe.
+        Question::Violation => first_violation_of_a_probe(ledger, alloc) == Some(Rule::PastProbe),
+        Question::Toleration => tolerates_the_first(ledger),
+    }
+}
+
+/// The same of a ledger under this header. Only this function and `a_loss` hold one, since it takes
+/// long to prove that it is dropped.
+fn answers_under(alloc: Global, header: Header, question: Question) -> bool {
     let mut ledger = Running::start(alloc, header);
-    let answers = [
-        tolerated(&mut ledger, probe(0)),
-        tolerated(&mut ledger, probe(0)),
-    ];
-    Some((answers, ledger.totals().bytes_in_flight))
+    answers(&mut ledger, alloc, question)
+}
+
+/// The same under a server's header.
+fn is_answered(alloc: Global, question: Question) -> bool {
+    match Header::new(Role::Server, 1200, None, None, None) {
+        Ok(header) => answers_under(alloc, header, question),
+        Err(_) => false,
+    }
+}
+
+/// A Lost line that names another packet than the one that is owed: the ledger says which is not
+/// named, and which is not owed.
+#[test]
+fn a_cause(rt: HostRuntime) {
+    assert!(rt; is_answered(rt.alloc(), Question::Cause));
+}
+
+/// A probe before any probe timeout breaks a rule.
+#[test]
+fn a_probe_without_a_timeout_violates(rt: HostRuntime) {
+    assert!(rt; is_answered(rt.alloc(), Question::Violation));
 }
 
 /// The ledger goes on with a probe before any probe timeout; a second packet of the same number it
 /// does not bear.
 #[test]
 fn a_probe_without_a_timeout_is_tolerated(rt: HostRuntime) {
-    let refused = Err(LedgerFault::Broken(Rule::NumberNotHigher));
-    let answers = [Some(Ok(())), Some(refused)];
-    assert_eq!(rt; tolerated_twice(rt.alloc()), Some((answers, 1200)));
+    assert!(rt; is_answered(rt.alloc(), Question::Toleration));
 }

@@ -1,12 +1,8 @@
 //! Sets of packet numbers, kept as runs.
-use qa_base::{PacketNumber, Span};
+use crate::tests::events::span;
+use qa_base::PacketNumber;
 use qa_packet_numbers::Ranges;
 use std::alloc::Global;
-
-/// The packet numbers from `lo` to `hi`.
-fn span(lo: u64, hi: u64) -> Option<Span> {
-    Span::new(PacketNumber::new(lo)?, PacketNumber::new(hi)?)
-}
 
 /// Adds the numbers from `lo` to `hi`.
 fn add(set: &mut Ranges, lo: u64, hi: u64) -> Option<()> {
@@ -23,9 +19,14 @@ fn covers(set: &Ranges, hi: u64) -> Option<bool> {
     Some(set.covers(span(0, hi)?))
 }
 
+/// Whether a new set has no run, and no greatest number.
+fn is_empty(alloc: Global) -> bool {
+    extent(&Ranges::new(alloc)) == (0, None)
+}
+
 #[test]
 fn an_empty_set_has_no_run(rt: HostRuntime) {
-    assert_eq!(rt; extent(&Ranges::new(rt.alloc())), (0, None));
+    assert!(rt; is_empty(rt.alloc()));
 }
 
 /// Adds the numbers from 0 to 3, and 5.
@@ -49,12 +50,17 @@ fn joined(alloc: Global) -> Option<([(u64, Option<u64>); 2], [Option<bool>; 3])>
     join(&mut Ranges::new(alloc))
 }
 
+/// Whether two runs are one then, up to 5.
+fn is_joined(alloc: Global) -> bool {
+    let extents = [(2, Some(5)), (1, Some(5))];
+    let has_all = [Some(false), Some(true), Some(false)];
+    joined(alloc) == Some((extents, has_all))
+}
+
 /// Runs that touch are one.
 #[test]
 fn runs_are_joined(rt: HostRuntime) {
-    let extents = [(2, Some(5)), (1, Some(5))];
-    let has_all = [Some(false), Some(true), Some(false)];
-    assert_eq!(rt; joined(rt.alloc()), Some((extents, has_all)));
+    assert!(rt; is_joined(rt.alloc()));
 }
 
 /// Adds two runs, and a span over a part of the first and all behind.
@@ -69,9 +75,13 @@ fn ran_over(alloc: Global) -> Option<(u64, Option<u64>)> {
     run_over(&mut Ranges::new(alloc))
 }
 
+/// Whether one run is left then, up to the greatest number there is.
+fn is_run_over(alloc: Global) -> bool {
+    ran_over(alloc) == Some((1, Some(4_611_686_018_427_387_903)))
+}
+
 /// Runs that a span runs over are one.
 #[test]
 fn a_span_runs_over_runs(rt: HostRuntime) {
-    let whole = (1, Some(4_611_686_018_427_387_903));
-    assert_eq!(rt; ran_over(rt.alloc()), Some(whole));
+    assert!(rt; is_run_over(rt.alloc()));
 }

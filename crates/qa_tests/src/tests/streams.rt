@@ -84,11 +84,15 @@ fn explain_to_a_failed_read(alloc: Global) -> (Result<Outcome, AuditFault>, u64,
     (ended, reader.into_inner().calls, is_written)
 }
 
+/// Whether it ends by that read, with the header's row written.
+fn ends_by_a_read(alloc: Global) -> bool {
+    explain_to_a_failed_read(alloc) == (Err(AuditFault::Read), 2, true)
+}
+
 /// The header is read, and the next read fails.
 #[test]
 fn a_read_fails(rt: HostRuntime) {
-    let found = explain_to_a_failed_read(rt.alloc());
-    assert_eq!(rt; found, (Err(AuditFault::Read), 2, true));
+    assert!(rt; ends_by_a_read(rt.alloc()));
 }
 
 /// How an explanation ends that is read at once, and how often it has written.
@@ -99,11 +103,15 @@ fn explain_at_once(alloc: Global) -> (Result<Outcome, AuditFault>, u64) {
     (ended, writer.into_inner().calls)
 }
 
+/// Whether it is accepted, with two writes.
+fn takes_two_writes(alloc: Global) -> bool {
+    explain_at_once(alloc) == (Ok(Outcome::Accepted), 2)
+}
+
 /// The rows of what one read gives are one write, and the report is another.
 #[test]
 fn rows_are_written_at_once(rt: HostRuntime) {
-    let found = explain_at_once(rt.alloc());
-    assert_eq!(rt; found, (Ok(Outcome::Accepted), 2));
+    assert!(rt; takes_two_writes(rt.alloc()));
 }
 
 /// How an audit ends whose sixth write fails, how often it has written, and whether five bytes.
@@ -115,11 +123,15 @@ fn audit_to_a_failed_write(alloc: Global) -> (Result<Outcome, AuditFault>, u64, 
     (ended, writer.calls, has_written(&writer.inner, "accep"))
 }
 
+/// Whether it ends by that write, with five bytes written.
+fn ends_by_a_write(alloc: Global) -> bool {
+    audit_to_a_failed_write(alloc) == (Err(AuditFault::Write), 6, true)
+}
+
 /// Five bytes are written, and the next write fails.
 #[test]
 fn a_write_fails(rt: HostRuntime) {
-    let found = audit_to_a_failed_write(rt.alloc());
-    assert_eq!(rt; found, (Err(AuditFault::Write), 6, true));
+    assert!(rt; ends_by_a_write(rt.alloc()));
 }
 
 /// A ledger that is out of memory at each event.
@@ -170,11 +182,15 @@ fn audit_without_memory(alloc: Global) -> (Result<Outcome, AuditFault>, bool) {
     (ended, has_written(&writer.into_inner(), ""))
 }
 
+/// Whether it ends so, with nothing written.
+fn audits_without_memory(alloc: Global) -> bool {
+    audit_without_memory(alloc) == (Err(AuditFault::OutOfMemory), true)
+}
+
 /// Nothing is written, so the ledger that is named is the one that is asked.
 #[test]
 fn an_audit_has_a_ledger_out_of_memory(rt: HostRuntime) {
-    let found = audit_without_memory(rt.alloc());
-    assert_eq!(rt; found, (Err(AuditFault::OutOfMemory), true));
+    assert!(rt; audits_without_memory(rt.alloc()));
 }
 
 /// How an explanation by it ends, and whether the header's row is written.
@@ -185,9 +201,13 @@ fn explain_without_memory(alloc: Global) -> (Result<Outcome, AuditFault>, bool) 
     (ended, has_written(&writer.into_inner(), ROW))
 }
 
+/// Whether it ends so, with the header's row written.
+fn explains_without_memory(alloc: Global) -> bool {
+    explain_without_memory(alloc) == (Err(AuditFault::OutOfMemory), true)
+}
+
 /// The header is taken in, and the packet is not.
 #[test]
 fn an_explanation_has_a_ledger_out_of_memory(rt: HostRuntime) {
-    let found = explain_without_memory(rt.alloc());
-    assert_eq!(rt; found, (Err(AuditFault::OutOfMemory), true));
+    assert!(rt; explains_without_memory(rt.alloc()));
 }
