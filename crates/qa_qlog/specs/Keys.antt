@@ -7,6 +7,10 @@ use Rattle.qa_qlog.specs.declared.keys.Key.TheVariants as key
 abbrev pub name_of : Key → List ℕ
 name_of key.PacketNumber = codes "packet_number"
 name_of key.Length = codes "raw.length"
+name_of key.PayloadLength = codes "payload_length"
+name_of key.HeaderLength = codes "header.length"
+name_of key.FrameLength = codes "length"
+name_of key.Offset = codes "offset"
 name_of key.Frames = codes "frames"
 name_of key.AckedRanges = codes "acked_ranges"
 name_of key.AckDelay = codes "ack_delay"
@@ -45,6 +49,9 @@ max_bytes = 18446744073709551615
 -- an integer of QUIC has 62 bits (RFC 9000, section 16)
 abbrev pub largest : Key → ℕ
 largest key.Length = max_packet_size
+largest key.PayloadLength = max_packet_size
+largest key.HeaderLength = max_packet_size
+largest key.FrameLength = max_packet_size
 largest key.AckDelayExponent = max_exponent
 largest key.CongestionWindow = max_bytes
 largest key.Ssthresh = max_bytes

@@ -4,6 +4,7 @@ pub mod Frames
 pub mod Heads
 pub mod Keys
 pub mod Kinds
+pub mod Lengths
 pub mod Losses
 pub mod Marks
 pub mod Metrics

@@ -18,6 +18,14 @@ pub enum Key {
     PacketNumber,
     /// The size of a packet, at whatever key its draft has it.
     Length,
+    /// How many bytes the frames of a packet have, or the data of one.
+    PayloadLength,
+    /// The length of a packet that its header says.
+    HeaderLength,
+    /// How many bytes a frame has without data.
+    FrameLength,
+    /// At which byte of its stream the data of a frame begin.
+    Offset,
     /// The frames of a packet.
     Frames,
     /// The ranges of an ACK frame.
@@ -70,6 +78,10 @@ impl Key {
         match self {
             Key::PacketNumber => "packet_number",
             Key::Length => "raw.length",
+            Key::PayloadLength => "payload_length",
+            Key::HeaderLength => "header.length",
+            Key::FrameLength => "length",
+            Key::Offset => "offset",
             Key::Frames => "frames",
             Key::AckedRanges => "acked_ranges",
             Key::AckDelay => "ack_delay",
@@ -110,6 +122,7 @@ impl Key {
     {
         match self {
             Key::Length => MAX_SIZE,
+            Key::PayloadLength | Key::HeaderLength | Key::FrameLength => MAX_SIZE,
             Key::AckDelayExponent => MAX_EXPONENT,
             Key::CongestionWindow | Key::Ssthresh | Key::BytesInFlight => u64::MAX,
             _ => PacketNumber::MAX,

@@ -97,7 +97,7 @@ impl<'t, 'a> Packet<'t, 'a> {
     }
 
     /// What the header says at a key.
-    fn in_header(&self, key: &str) -> Option<Element<'t, 'a>>
+    pub(crate) fn in_header(&self, key: &str) -> Option<Element<'t, 'a>>
         ensures { (h d : Option Json) → Finds self.now.header h → Finds self.now.data d
             → Finds result (packets.in_header h d key.now) }
     {

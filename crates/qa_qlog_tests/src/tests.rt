@@ -2,6 +2,7 @@
 mod frames;
 mod heads;
 mod kinds;
+mod lengths;
 mod metrics;
 mod names;
 mod packets;
