@@ -64,8 +64,8 @@ other s =
 -- long
 abbrev pub settled_by : Sample → ℕ → Option ℕ → Reports → ℕ
 settled_by s delay longest reports =
-    if is_otherwise s reports.before reports.after && nat_le (other s) (shorter_of (other s) longest)
-    then other s else delay
+    if is_otherwise s reports.before reports.after
+    && nat_le (other s) (shorter_of (other s) longest) then other s else delay
 
 -- the same with the least sample before it, once a sample was taken
 abbrev pub settled : Option ℕ → ℕ → ℕ → Option ℕ → Option Reports → ℕ

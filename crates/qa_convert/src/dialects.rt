@@ -40,8 +40,8 @@ pub struct Dialect {
     pub initial_datagrams: u64,
     /// Whether sizes leave out padding, and are those by which the bytes in flight grow.
     pub sizes_by_growth: bool,
-    /// Whether the delay of acknowledgments is as on the wire, not yet multiplied (RFC 9000, section
-    /// 19.3).
+    /// Whether the delay of acknowledgments is as on the wire, not yet multiplied (RFC 9000,
+    /// section 19.3).
     pub delay_is_encoded: bool,
     /// Whether its times are read after the event, on a busy computer by milliseconds.
     pub is_read_late: bool,
@@ -342,8 +342,8 @@ const DIALECTS: [Dialect; 11] = [
     MVFST,
 ];
 
-/// The kind of a log, by what its head says of who wrote it, and by its version or schema: the first
-/// with both its mark and its schema, else the first with its mark.
+/// The kind of a log, by what its head says of who wrote it, and by its version or schema: the
+/// first with both its mark and its schema, else the first with its mark.
 pub fn dialect_of(said: &[&str], schema: &str) -> Dialect {
     let mut marked = None;
     for dialect in DIALECTS.iter() {

@@ -200,8 +200,8 @@ fn shorter_of(duration: u64, longest: Option<u64>) -> u64
     }
 }
 
-/// How old a packet is at some time, by a log whose times are whole milliseconds, and the round-trip
-/// time and the eighths of it by which it is lost. Times are in nanoseconds.
+/// How old a packet is at some time, by a log whose times are whole milliseconds, and the
+/// round-trip time and the eighths of it by which it is lost. Times are in nanoseconds.
 #[derive(Clone, Copy)]
 pub struct Age {
     /// How old it is.

@@ -2,8 +2,12 @@ pub mod Beginning
 pub mod Categories
 pub mod Digits
 pub mod Finding
+pub mod Gathered
+pub mod Keyed
 pub mod Laws
 pub mod Named
 pub mod Pieces
+pub mod Powers
 pub mod Sizes
+pub mod Spread
 pub mod Values

@@ -5,7 +5,8 @@ use Rattle.json.specs.Token.{Token}
 use Rattle.json.specs.Json.{Json, boolean, number, string, array, object, Items, Members}
 use Rattle.json.specs.Find.{InItems, InMembers, NextItem, NextMember, Finds, as_str, as_number, as_bool, as_array, as_object, is_null}
 use Rattle.qa_qlog.specs.Times.{is_nothing}
-use Rattle.qa_qlog.specs.Says.{has_item, has_member, has_any, says, is_object}
+use Rattle.qa_qlog.specs.Records.{or_else}
+use Rattle.qa_qlog.specs.Says.{has_item, has_member, has_any, says, says_at, is_object}
 use Rattle.qa_qlog.specs.declared.heads.NoHead.{NoHead}
 use Rattle.qa_qlog.specs.declared.heads.NoHead.TheVariants as no
 use Rattle.std.proofs.lemmas.Str.{is_utf8-from_IsUtf8, IsUtf8-from_is_utf8}
@@ -21,6 +22,9 @@ or_found ts o p h = (h.0, ap (λ x. option_or x p) h.1, h.2)
 
 pub or_second : (ts : List Token) (o p q : Option Json) → o ≡ None → Finds (Some ts) p → Finds (Some ts) (option_or o (option_or p q))
 or_second ts o p q none h = subst (λ x. Finds (Some ts) (option_or x (option_or p q))) (sym none) (or_found ts p q h)
+
+pub first_says : (r : Option (List Token)) (o p : Option Json) → Finds r o → says_at o ≡ true → Finds r (or_else o p)
+first_says r o p finds says = rw says finds
 
 -- ---- kinds of values
 

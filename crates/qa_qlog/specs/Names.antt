@@ -3,6 +3,7 @@ use Rattle.std.specs.Prelude.{◌==◌, ℕ, Bool, List, [], ◌∷◌, codes, b
 use Rattle.std.specs.Prelude.{if◌then◌else◌}
 use Rattle.std.specs.List.{list_any}
 use Rattle.std.specs.Option.{option_or}
+use Rattle.std.specs.Str.{str_eq_ignore_ascii_case}
 use Rattle.qa_qlog.specs.declared.names.EventName.{EventName}
 use Rattle.qa_qlog.specs.declared.names.EventName.TheVariants as event
 
@@ -57,3 +58,10 @@ abbrev pub named : List ℕ → Option EventName
 named name =
     if bytes_eq name (codes "recovery:parameters_set") then Some event.RecoveryParametersSet
     else known (without_category name)
+
+-- ---- types
+
+-- what a table has for the name of a type, in capitals or small letters
+abbrev pub type_in : {T : Type 0} → List (List ℕ × T) → List ℕ → Option T
+type_in [] name = None
+type_in (n ∷ ns) name = if str_eq_ignore_ascii_case name n.0 then Some n.1 else type_in ns name

@@ -1,5 +1,6 @@
 //! The names of events, as the drafts write them.
 ghost use Rattle.std.specs.Prelude.{◌≡◌, bytes_eq};
+ghost use Rattle.std.specs.Str.{str_eq_ignore_ascii_case};
 ghost use Rattle.qa_qlog.specs.Names as names;
 
 use memchr::memrchr;
@@ -126,4 +127,11 @@ fn is(name: &[u8], text: &str) -> bool
     ensures { result ≡ bytes_eq name.now text.now }
 {
     name == text.as_bytes()
+}
+
+/// Whether a text is this name, in capitals or small letters.
+pub(crate) fn is_named(text: &str, name: &str) -> bool
+    ensures { result ≡ str_eq_ignore_ascii_case text.now name.now }
+{
+    text.eq_ignore_ascii_case(name)
 }

@@ -48,7 +48,7 @@ impl Head {
 }
 
 /// A value, if it is an object.
-fn object_only<'t, 'a>(found: Option<Element<'t, 'a>>) -> Option<Element<'t, 'a>>
+pub(crate) fn object_only<'t, 'a>(found: Option<Element<'t, 'a>>) -> Option<Element<'t, 'a>>
     ensures { (o : Option Json) → Finds found.entry o → Finds result (records.object_only o) }
 {
     match found {
@@ -145,7 +145,7 @@ fn time_of(found: &Option<Element<'_, '_>>, unit: Unit) -> Result<i64, NoTime>
 }
 
 /// The text of a number, which may be in a string; of other values none.
-fn written<'a>(value: &Element<'_, 'a>) -> &'a str
+pub(crate) fn written<'a>(value: &Element<'_, 'a>) -> &'a str
     ensures { (j : Json) → BeginsWith value.now j → result.now ≡ records.written j }
 {
     match value.as_number() {

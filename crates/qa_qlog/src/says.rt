@@ -2,6 +2,7 @@
 ghost use Rattle.std.specs.Prelude.{◌≡◌, List, Option, option_map};
 ghost use Rattle.json.specs.Json.{Json};
 ghost use Rattle.json.specs.Find.{BeginsWith, Finds};
+ghost use Rattle.qa_qlog.specs.Kinds.{is_string};
 ghost use Rattle.qa_qlog.specs.Says as said;
 
 use crate::times::is_nothing;
@@ -81,5 +82,15 @@ pub(crate) fn key_at<'t, 'a>(found: &Option<Element<'t, 'a>>, key: &str) -> Opti
     match found {
         Some(value) => value.get(key),
         None => None,
+    }
+}
+
+/// Whether it is a string of this text.
+pub(crate) fn is_text(found: &Option<Element<'_, '_>>, text: &str) -> bool
+    ensures { (o : Option Json) → Finds found.now o → result ≡ is_string text.now o }
+{
+    match text_at(found) {
+        Some(said) => said == text,
+        None => false,
     }
 }

@@ -14,7 +14,7 @@ const CAP: u128 = 1 << 65;
 /// More nanoseconds than a time has.
 const LIMIT: u128 = 1 << 63;
 /// The most nanoseconds of a duration.
-const LONGEST: u128 = 1_000_000_000_000_000_000;
+pub(crate) const LONGEST: u128 = 1_000_000_000_000_000_000;
 /// How many places the first digit is from the point at most.
 const MAX_PLACES: u128 = 40;
 
@@ -104,7 +104,7 @@ pub(crate) fn is_nothing(text: &[u8]) -> bool
 }
 
 /// Whether a text begins with a minus, and the text without its sign.
-fn split_sign(text: &[u8]) -> (bool, &[u8])
+pub(crate) fn split_sign(text: &[u8]) -> (bool, &[u8])
     ensures sign { result.0 ≡ starts_with_minus text.now }
     ensures rest { result.1.now ≡ without_leading_sign text.now }
 {

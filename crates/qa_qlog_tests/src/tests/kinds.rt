@@ -1,5 +1,5 @@
 //! Beginnings of files, and what they are.
-use crate::{Kind, NoLog, kind_of};
+use qa_qlog::{Kind, NoLog, kind_of};
 use std::test::Fail;
 
 /// Logs in each form, each by its first line alone.

@@ -1,5 +1,5 @@
 //! Texts of logs in both forms.
-use crate::{Mark, TextFault, Texts};
+use qa_qlog::{Mark, TextFault, Texts};
 use std::alloc::{AllocError, Global};
 use std::test::Fail;
 

@@ -1,5 +1,5 @@
 //! Times and durations, with what `Decimal` of Python makes of them.
-use crate::{NoTime, Unit, duration, time};
+use qa_qlog::{NoTime, Unit, duration, time};
 
 /// Times in each unit, also of less than a nanosecond, below 0, and with an exponent.
 #[test]

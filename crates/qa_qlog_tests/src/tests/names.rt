@@ -1,5 +1,5 @@
 //! Names of events in several drafts.
-use crate::EventName;
+use qa_qlog::EventName;
 
 /// Each name that is read, and how drafts write it.
 #[test]

@@ -1,6 +1,6 @@
 //! Heads of logs of many texts, in several drafts.
-use crate::{Head, NoHead, TimeForm, Unit, head_of};
 use qa_base::Role;
+use qa_qlog::{Head, NoHead, TimeForm, Unit, head_of};
 use std::test::Fail;
 
 /// What times count from and count, and which endpoint wrote the log.

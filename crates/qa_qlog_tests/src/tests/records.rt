@@ -1,6 +1,6 @@
 //! Heads of records in several drafts.
-use crate::{EventHead, EventName, NoTime, head_of};
 use json::{Scratch, Tape};
+use qa_qlog::{EventHead, EventName, NoTime, head_of};
 use std::alloc::Global;
 use std::test::Fail;
 

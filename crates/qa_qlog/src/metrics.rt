@@ -1,0 +1,165 @@
+//! What a report says of the state of the sender: `metrics_updated` of category `recovery`.
+ghost use Rattle.std.specs.Prelude.{◌≡◌, bytes_eq, Option};
+ghost use Rattle.json.specs.Json.{Json};
+ghost use Rattle.json.specs.Json as json;
+ghost use Rattle.json.specs.Find.{BeginsWith, InMembers, Finds};
+ghost use Rattle.qa_qlog.specs.Metrics as metrics;
+
+use crate::keys::{Key, NoValue};
+use crate::numbers::{duration_in, optional_at, whole_in};
+use crate::says::{is_given, key_at};
+use crate::times::Unit;
+use json::{Element, Members};
+use qa_base::PacketNumber;
+
+/// The round-trip times of a report, in nanoseconds.
+#[derive(Clone, Copy, Debug, PartialEq, Eq)]
+pub struct Rtts {
+    /// The last sample.
+    pub latest: Option<u64>,
+    /// The least sample.
+    pub min: Option<u64>,
+    /// The smoothed one.
+    pub smoothed: Option<u64>,
+    /// The variation.
+    pub variance: Option<u64>,
+}
+
+/// The byte counts of a report.
+#[derive(Clone, Copy, Debug, PartialEq, Eq)]
+pub struct ByteCounts {
+    /// The congestion window.
+    pub window: Option<u64>,
+    /// The slow start threshold; None also if there is no threshold by the report.
+    pub ssthresh: Option<u64>,
+    /// The bytes in flight.
+    pub in_flight: Option<u64>,
+}
+
+/// The round-trip times that a report says, in a log whose durations have this unit.
+pub fn reported_rtts(data: &Option<Element<'_, '_>>, unit: Unit) -> Result<Rtts, NoValue>
+    ensures { (d : Option Json) → Finds data.now d → result ≡ metrics.rtts unit d }
+{
+    let latest = duration_in(data, Key::LatestRtt, unit);
+    let min = duration_in(data, Key::MinRtt, unit);
+    let smoothed = duration_in(data, Key::SmoothedRtt, unit);
+    let variance = duration_in(data, Key::RttVariance, unit);
+    rtts_of(latest, min, smoothed, variance)
+}
+
+/// Round-trip times, or the first fault.
+fn rtts_of(
+    latest: Result<Option<u64>, NoValue>,
+    min: Result<Option<u64>, NoValue>,
+    smoothed: Result<Option<u64>, NoValue>,
+    variance: Result<Option<u64>, NoValue>,
+) -> Result<Rtts, NoValue>
+    ensures { result ≡ metrics.rtts_of latest min smoothed variance }
+{
+    Ok(Rtts {
+        latest: latest?,
+        min: min?,
+        smoothed: smoothed?,
+        variance: variance?,
+    })
+}
+
+/// The byte counts that a report says.
+pub fn reported_bytes(data: &Option<Element<'_, '_>>) -> Result<ByteCounts, NoValue>
+    ensures { (d : Option Json) → Finds data.now d → result ≡ metrics.sizes d }
+{
+    let window = window(data);
+    let ssthresh = ssthresh(data);
+    let in_flight = whole_in(data, Key::BytesInFlight);
+    sizes_of(window, ssthresh, in_flight)
+}
+
+/// ByteCounts, or the first fault.
+fn sizes_of(
+    window: Result<Option<u64>, NoValue>,
+    ssthresh: Result<Option<u64>, NoValue>,
+    in_flight: Result<Option<u64>, NoValue>,
+) -> Result<ByteCounts, NoValue>
+    ensures { result ≡ metrics.sizes_of window ssthresh in_flight }
+{
+    Ok(ByteCounts {
+        window: window?,
+        ssthresh: ssthresh?,
+        in_flight: in_flight?,
+    })
+}
+
+/// The congestion window.
+fn window(data: &Option<Element<'_, '_>>) -> Result<Option<u64>, NoValue>
+    ensures { (d : Option Json) → Finds data.now d → result ≡ metrics.window d }
+{
+    optional_at(&window_at(data), Key::CongestionWindow)
+}
+
+/// What is given at the first of the keys for the window.
+fn window_at<'t, 'a>(data: &Option<Element<'t, 'a>>) -> Option<Element<'t, 'a>>
+    ensures { (d : Option Json) → Finds data.now d → Finds result (metrics.window_at d) }
+{
+    let found = key_at(data, "congestion_window");
+    if is_given(&found) {
+        return found;
+    }
+    let found = key_at(data, "cwnd");
+    if is_given(&found) {
+        return found;
+    }
+    key_at(data, "current_cwnd")
+}
+
+/// The slow start threshold; above 2^62 - 1 there is none.
+fn ssthresh(data: &Option<Element<'_, '_>>) -> Result<Option<u64>, NoValue>
+    ensures { (d : Option Json) → Finds data.now d → result ≡ metrics.ssthresh d }
+{
+    match whole_in(data, Key::Ssthresh) {
+        Ok(Some(size)) if PacketNumber::MAX < size => Ok(None),
+        other => other,
+    }
+}
+
+/// Whether all that a report says is the count of probe timeouts.
+pub fn has_only_pto_count(data: &Element<'_, '_>) -> bool
+    ensures { (j : Json) → BeginsWith data.now j → result ≡ metrics.has_only_pto_count j }
+{
+    match data.members() {
+        Some(members) => are_only(members, "pto_count"),
+        None => false,
+    }
+}
+
+/// Whether there are members, and all have this key.
+fn are_only(members: Members<'_, '_>, key: &str) -> bool
+    ensures { (ms : json.Members) → InMembers members.entry ms
+        → result ≡ metrics.are_only key.now ms }
+{
+    let mut members = members;
+    match members.next() {
+        Some((first, _)) => is_key(first, key) && are_all(members, key),
+        None => false,
+    }
+}
+
+/// Whether all members have this key.
+fn are_all(members: Members<'_, '_>, key: &str) -> bool
+    ensures { (ms : json.Members) → InMembers members.entry ms
+        → result ≡ metrics.are_all key.now ms }
+{
+    let mut members = members;
+    while let Some((name, _)) = members.next() {
+        if !is_key(name, key) {
+            return false;
+        }
+    }
+    true
+}
+
+/// Whether the name of a member is this key.
+fn is_key(name: &str, key: &str) -> bool
+    ensures { result ≡ bytes_eq name.now key.now }
+{
+    name == key
+}

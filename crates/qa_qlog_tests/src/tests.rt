@@ -1,0 +1,11 @@
+//! Logs whose texts, lines, kinds, times, names, heads and records were read by hand.
+mod frames;
+mod heads;
+mod kinds;
+mod lengths;
+mod metrics;
+mod names;
+mod packets;
+mod records;
+mod texts;
+mod times;
