@@ -4,6 +4,7 @@ use qa_format::Form;
 use qa_sender::Running;
 use qa_violations::{Manner, rows_all, why_all};
 use qa_why::NoNotes;
+use std::alloc::Global;
 
 /// A probe before any probe timeout, which breaks V8.
 const TRACE: &str =
@@ -29,118 +30,78 @@ const OBJECT_AROUND: &str =
 const ROWS: &str =
     "{\"line\":1,\"event\":{\"event\":\"header\",\"initial_rtt\":333000,\"initial_window\":12000,\"max_ack_delay\":25000,\"max_datagram_size\":1200,\"role\":\"server\",\"version\":1},\"state\":{\"events\":0,\"window_bytes\":12000,\"ssthresh_bytes\":null,\"in_flight_bytes\":0,\"latest_rtt_us\":0,\"min_rtt_us\":0,\"smoothed_rtt_us\":333000,\"rttvar_us\":166500,\"pto_count\":0,\"owed_space\":null,\"owed\":[],\"set_kind\":null,\"set_space\":null,\"deadline_us\":null}}\n{\"line\":2,\"event\":{\"eliciting\":true,\"event\":\"sent\",\"in_flight\":true,\"leave\":\"probe\",\"number\":0,\"size\":1200,\"space\":\"app\",\"time\":0},\"state\":{\"events\":1,\"window_bytes\":12000,\"ssthresh_bytes\":null,\"in_flight_bytes\":1200,\"latest_rtt_us\":0,\"min_rtt_us\":0,\"smoothed_rtt_us\":333000,\"rttvar_us\":166500,\"pto_count\":0,\"owed_space\":null,\"owed\":[],\"set_kind\":null,\"set_space\":null,\"deadline_us\":null}}\n";
 
+/// In this form, with so many rows before a violation, and nothing of an accepted trace.
+fn quietly(form: Form, around: u16) -> Manner {
+    Manner {
+        form,
+        quiet: true,
+        around,
+    }
+}
+
+/// Whether a trace ends so, and this is what is told of it.
+fn tells(alloc: Global, manner: Manner, trace: &[u8], outcome: Outcome, text: &str) -> bool {
+    let mut reader = Metered::new(trace);
+    let mut writer = Metered::new(Vec::new(alloc));
+    let told = why_all::<Running, _, _, _>(alloc, manner, "a", NoNotes, &mut reader, &mut writer);
+    let ends_so = match told {
+        Ok((found, _)) => found == outcome,
+        Err(_) => false,
+    };
+    ends_so && writer.into_inner().as_slice() == text.as_bytes()
+}
+
+/// Whether this is what is told of the trace that violates a rule, which is refused.
+fn tells_of_a_probe(alloc: Global, manner: Manner, text: &str) -> bool {
+    tells(alloc, manner, TRACE.as_bytes(), Outcome::Refused, text)
+}
+
 /// A trace that violates a rule is told of with its table, and is refused.
 #[test]
 fn a_trace_violates(rt: HostRuntime) {
-    let mut reader = Metered::new(TRACE.as_bytes());
-    let mut writer = Metered::new(Vec::new(rt.alloc()));
-    let ended = why_all::<Running, _, _, _>(
-        rt.alloc(),
-        Manner {
-            form: Form::Text,
-            quiet: true,
-            around: 0,
-        },
-        "a",
-        NoNotes,
-        &mut reader,
-        &mut writer,
-    );
-    assert!(rt; ended.is_ok_and(|told| told.0 == Outcome::Refused));
-    assert_eq!(rt; writer.into_inner().as_slice(), TEXT.as_bytes());
+    assert!(rt; tells_of_a_probe(rt.alloc(), quietly(Form::Text, 0), TEXT));
 }
 
 /// The same as an object.
 #[test]
 fn a_trace_violates_as_an_object(rt: HostRuntime) {
-    let mut reader = Metered::new(TRACE.as_bytes());
-    let mut writer = Metered::new(Vec::new(rt.alloc()));
-    let ended = why_all::<Running, _, _, _>(
-        rt.alloc(),
-        Manner {
-            form: Form::Json,
-            quiet: true,
-            around: 0,
-        },
-        "a",
-        NoNotes,
-        &mut reader,
-        &mut writer,
-    );
-    assert!(rt; ended.is_ok_and(|told| told.0 == Outcome::Refused));
-    assert_eq!(rt; writer.into_inner().as_slice(), OBJECT.as_bytes());
-}
-
-/// The header alone is accepted, and nothing is written of it where it is to be quiet.
-#[test]
-fn a_trace_violates_from_nothing(rt: HostRuntime) {
-    let header = &TRACE.as_bytes()[..72];
-    let mut reader = Metered::new(header);
-    let mut writer = Metered::new(Vec::new(rt.alloc()));
-    let ended = why_all::<Running, _, _, _>(
-        rt.alloc(),
-        Manner {
-            form: Form::Text,
-            quiet: true,
-            around: 0,
-        },
-        "a",
-        NoNotes,
-        &mut reader,
-        &mut writer,
-    );
-    assert!(rt; ended.is_ok_and(|told| told.0 == Outcome::Accepted));
-    assert!(rt; writer.into_inner().is_empty());
-}
-
-/// Both lines have a row, the second behind a violation.
-#[test]
-fn a_row_stands_behind_a_violation(rt: HostRuntime) {
-    let mut reader = Metered::new(TRACE.as_bytes());
-    let mut writer = Metered::new(Vec::new(rt.alloc()));
-    let ended = rows_all::<Running, _, _>(rt.alloc(), &mut reader, &mut writer);
-    assert_eq!(rt; ended, Ok(Outcome::Accepted));
-    assert_eq!(rt; writer.into_inner().as_slice(), ROWS.as_bytes());
+    assert!(rt; tells_of_a_probe(rt.alloc(), quietly(Form::Json, 0), OBJECT));
 }
 
 /// Behind a violation stand the rows before it.
 #[test]
 fn a_row_stands_before_a_violation(rt: HostRuntime) {
-    let mut reader = Metered::new(TRACE.as_bytes());
-    let mut writer = Metered::new(Vec::new(rt.alloc()));
-    let ended = why_all::<Running, _, _, _>(
-        rt.alloc(),
-        Manner {
-            form: Form::Text,
-            quiet: true,
-            around: 3,
-        },
-        "a",
-        NoNotes,
-        &mut reader,
-        &mut writer,
-    );
-    assert!(rt; ended.is_ok_and(|told| told.0 == Outcome::Refused));
-    assert_eq!(rt; writer.into_inner().as_slice(), TEXT_AROUND.as_bytes());
+    assert!(rt; tells_of_a_probe(rt.alloc(), quietly(Form::Text, 3), TEXT_AROUND));
 }
 
 /// In an object the rows before the first violation are a member.
 #[test]
 fn an_object_stands_before_a_violation(rt: HostRuntime) {
+    assert!(rt; tells_of_a_probe(rt.alloc(), quietly(Form::Json, 3), OBJECT_AROUND));
+}
+
+/// Whether the header alone is accepted, and nothing is told of it.
+fn tells_nothing_of_the_header(alloc: Global) -> bool {
+    let header = &TRACE.as_bytes()[..72];
+    tells(alloc, quietly(Form::Text, 0), header, Outcome::Accepted, "")
+}
+
+/// The header alone is accepted, and nothing is written of it where it is to be quiet.
+#[test]
+fn a_trace_violates_from_nothing(rt: HostRuntime) {
+    assert!(rt; tells_nothing_of_the_header(rt.alloc()));
+}
+
+/// Whether the trace has these rows, and is accepted.
+fn has_rows(alloc: Global, rows: &str) -> bool {
     let mut reader = Metered::new(TRACE.as_bytes());
-    let mut writer = Metered::new(Vec::new(rt.alloc()));
-    let ended = why_all::<Running, _, _, _>(
-        rt.alloc(),
-        Manner {
-            form: Form::Json,
-            quiet: true,
-            around: 3,
-        },
-        "a",
-        NoNotes,
-        &mut reader,
-        &mut writer,
-    );
-    assert!(rt; ended.is_ok_and(|told| told.0 == Outcome::Refused));
-    assert_eq!(rt; writer.into_inner().as_slice(), OBJECT_AROUND.as_bytes());
+    let mut writer = Metered::new(Vec::new(alloc));
+    let ended = rows_all::<Running, _, _>(alloc, &mut reader, &mut writer);
+    ended == Ok(Outcome::Accepted) && writer.into_inner().as_slice() == rows.as_bytes()
+}
+
+/// Both lines have a row, the second behind a violation.
+#[test]
+fn a_row_stands_behind_a_violation(rt: HostRuntime) {
+    assert!(rt; has_rows(rt.alloc(), ROWS));
 }

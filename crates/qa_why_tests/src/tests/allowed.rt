@@ -3,6 +3,7 @@ use qa_base::{Key, Rule};
 use qa_check::Metered;
 use qa_sender::Running;
 use qa_violations::{Allowance, header_allowed};
+use std::alloc::Global;
 
 /// The second packet takes the bytes in flight 100 past the window.
 const OVERSHOOT: &str =
@@ -30,20 +31,42 @@ fn only(items: &[Allowance]) -> Option<(Sum, Option<Key>, Option<u128>)> {
     }
 }
 
+/// What the header of a trace allowed.
+fn allowed(alloc: Global, trace: &str) -> Option<Vec<Allowance>> {
+    let mut reader = Metered::new(trace.as_bytes());
+    header_allowed::<Running, _>(alloc, &mut reader)
+}
+
+/// Whether the one item is that of the packet that goes 100 bytes past the window.
+fn is_past_the_window(items: &[Allowance]) -> bool {
+    let sum = (Rule::PastWindow, 1, 3, 3, Some(100));
+    only(items) == Some((sum, Some(Key::WindowOvershoot), None))
+}
+
+/// Whether an accepted trace has that item.
+fn has_an_item(alloc: Global) -> bool {
+    match allowed(alloc, OVERSHOOT) {
+        Some(items) => is_past_the_window(items.as_slice()),
+        None => false,
+    }
+}
+
 /// An accepted trace has an item for the rule past which it went.
 #[test]
 fn a_packet_past_the_window_is_an_item(rt: HostRuntime) {
-    let mut reader = Metered::new(OVERSHOOT.as_bytes());
-    let items = header_allowed::<Running, _>(rt.alloc(), &mut reader);
-    let sum = (Rule::PastWindow, 1, 3, 3, Some(100));
-    let wanted = Some((sum, Some(Key::WindowOvershoot), None));
-    assert!(rt; items.is_some_and(|items| only(&items) == wanted));
+    assert!(rt; has_an_item(rt.alloc()));
+}
+
+/// Whether a refused trace has no item.
+fn has_no_item(alloc: Global) -> bool {
+    match allowed(alloc, REFUSED) {
+        Some(items) => items.is_empty(),
+        None => false,
+    }
 }
 
 /// A refused one has none.
 #[test]
 fn a_refused_trace_has_no_item(rt: HostRuntime) {
-    let mut reader = Metered::new(REFUSED.as_bytes());
-    let items = header_allowed::<Running, _>(rt.alloc(), &mut reader);
-    assert!(rt; items.is_some_and(|items| items.is_empty()));
+    assert!(rt; has_no_item(rt.alloc()));
 }

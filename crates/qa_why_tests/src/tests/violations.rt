@@ -12,7 +12,6 @@ use qa_ledger::{Cause, Ledger, LedgerFault};
 use qa_sender::Running;
 use qa_violations::{Finding, Table, Tolerating, amount};
 use std::alloc::Global;
-use std::test::Fail;
 
 /// An ack-eliciting probe of 1,200 bytes at time 0, which breaks V8 where no probe timeout came
 /// before.
@@ -77,11 +76,6 @@ fn owes_a_space(judge: &Tolerating<Running>) -> Option<bool> {
     Some(judge.owed().ok()?.space.is_some())
 }
 
-/// A server's header.
-fn server() -> Option<Header> {
-    Header::new(Role::Server, 1200, None, None, None).ok()
-}
-
 /// The rule that the last event broke, and the allowance that it went past.
 type Latest = (Option<Rule>, Option<(u64, Option<u128>)>);
 
@@ -99,37 +93,30 @@ fn judged_probe(judge: &mut Tolerating<Running>) -> (Option<Result<(), LedgerFau
     (answer, latest(judge))
 }
 
-/// The allowance that a first probe would go past, by a judge before any event.
-fn first_allowance(alloc: Global) -> Option<(u64, Option<u128>)> {
-    let header = server()?;
-    next_allowance(&Tolerating::<Running>::under(alloc, header), probe(0))
-}
-
 /// What a judge keeps before any event, and what it answers to a probe and to another of the same
 /// number.
-fn judged_twice(alloc: Global) -> Option<(Latest, [(Option<Result<(), LedgerFault>>, Latest); 2])> {
-    let header = server()?;
-    let mut judge = Tolerating::<Running>::under(alloc, header);
-    let before = latest(&judge);
-    let answers = [judged_probe(&mut judge), judged_probe(&mut judge)];
-    Some((before, answers))
+fn judged_twice(
+    judge: &mut Tolerating<Running>,
+) -> (Latest, [(Option<Result<(), LedgerFault>>, Latest); 2])
+    requires few { judge.old.ledger.connection.events + 1 < max_lines }
+{
+    let before = latest(judge);
+    (before, [judged_probe(judge), judged_probe(judge)])
 }
 
-/// Why a probe that is not admitted yet would violate its rule is told.
-#[test]
-fn a_violation_is_told_before_it_is_admitted(rt: HostRuntime) {
-    assert_eq!(rt; first_allowance(rt.alloc()), Some((2400, None)));
+/// Whether two datagrams are allowed, of which none was taken, where no probe is admitted yet.
+fn allows_two_datagrams(judge: &Tolerating<Running>) -> bool {
+    next_allowance(judge, probe(0)) == Some((2400, None))
 }
 
-/// A probe before any probe timeout is admitted, with the facts before it; a second packet of the
-/// same number is refused, and what the last admitted event broke stays.
-#[test]
-fn a_violation_is_kept_with_its_facts(rt: HostRuntime) {
+/// Whether the first is admitted and the second refused, and both leave the facts of the first.
+fn keeps_the_facts(judge: &mut Tolerating<Running>) -> bool
+    requires few { judge.old.ledger.connection.events + 1 < max_lines }
+{
     let kept = (Some(Rule::PastProbe), Some((2400, None)));
     let refused = Err(LedgerFault::Broken(Rule::NumberNotHigher));
     let answers = [(Some(Ok(())), kept), (Some(refused), kept)];
-    let found = judged_twice(rt.alloc());
-    assert_eq!(rt; found, Some(((None, None), answers)));
+    judged_twice(judge) == ((None, None), answers)
 }
 
 /// The bytes in flight by the judge's ledger and by its state.
@@ -148,12 +135,67 @@ fn conduct(judge: &Tolerating<Running>) -> (bool, Option<bool>, bool) {
 
 /// What a judge answers after a probe: the bytes in flight, its conduct, and when the timer is due.
 fn answers_after_a_probe(
-    alloc: Global,
-) -> Option<((u64, u64), (bool, Option<bool>, bool), Option<u128>)> {
-    let header = server()?;
+    judge: &mut Tolerating<Running>,
+) -> ((u64, u64), (bool, Option<bool>, bool), Option<u128>)
+    requires few { judge.old.ledger.connection.events < max_lines }
+{
+    judged(judge, probe(0));
+    (bytes_in_flight(judge), conduct(judge), due(judge))
+}
+
+/// Whether the packet is in flight, nothing is owed, and the timer is due so.
+fn answers_by_its_ledger(judge: &mut Tolerating<Running>) -> bool
+    requires few { judge.old.ledger.connection.events < max_lines }
+{
+    let conduct = (false, Some(false), true);
+    answers_after_a_probe(judge) == ((1200, 1200), conduct, Some(999_000))
+}
+
+/// What a new judge is asked.
+#[derive(Clone, Copy)]
+enum Question {
+    Allowance,
+    Facts,
+    State,
+}
+
+/// Whether a new judge answers as was worked out.
+fn answers(judge: &mut Tolerating<Running>, question: Question) -> bool
+    requires few { judge.old.ledger.connection.events + 1 < max_lines }
+{
+    match question {
+        Question::Allowance => allows_two_datagrams(judge),
+        Question::Facts => keeps_the_facts(judge),
+        Question::State => answers_by_its_ledger(judge),
+    }
+}
+
+/// The same of a judge under this header. Only this function holds one, since it takes long to
+/// prove that it is dropped.
+fn answers_under(alloc: Global, header: Header, question: Question) -> bool {
     let mut judge = Tolerating::<Running>::under(alloc, header);
-    judged(&mut judge, probe(0));
-    Some((bytes_in_flight(&judge), conduct(&judge), due(&judge)))
+    answers(&mut judge, question)
+}
+
+/// The same under a server's header.
+fn is_answered(alloc: Global, question: Question) -> bool {
+    match Header::new(Role::Server, 1200, None, None, None) {
+        Ok(header) => answers_under(alloc, header, question),
+        Err(_) => false,
+    }
+}
+
+/// Why a probe that is not admitted yet would violate its rule is told.
+#[test]
+fn a_violation_is_told_before_it_is_admitted(rt: HostRuntime) {
+    assert!(rt; is_answered(rt.alloc(), Question::Allowance));
+}
+
+/// A probe before any probe timeout is admitted, with the facts before it; a second packet of the
+/// same number is refused, and what the last admitted event broke stays.
+#[test]
+fn a_violation_is_kept_with_its_facts(rt: HostRuntime) {
+    assert!(rt; is_answered(rt.alloc(), Question::Facts));
 }
 
 /// What is asked of a judge is answered by its ledger: after one packet nothing is owed, and its
@@ -161,9 +203,7 @@ fn answers_after_a_probe(
 /// 6.2.1).
 #[test]
 fn a_judge_answers_by_its_ledger(rt: HostRuntime) {
-    let conduct = (false, Some(false), true);
-    let found = answers_after_a_probe(rt.alloc());
-    assert_eq!(rt; found, Some(((1200, 1200), conduct, Some(999_000))));
+    assert!(rt; is_answered(rt.alloc(), Question::State));
 }
 
 /// By how much a probe violates its rule for this cause.
@@ -171,14 +211,18 @@ fn probe_amount(cause: &Cause) -> Option<u128> {
     amount(&probe(0)?, Rule::PastProbe, cause)
 }
 
+/// By how much one does where 2,400 bytes are allowed and 1,500 were taken.
+fn amount_past_probes() -> Option<u128> {
+    probe_amount(&Cause::PastProbe {
+        allowance: 2400,
+        spent: Some(1500),
+    })
+}
+
 /// A probe of 1,200 bytes where 2,400 are allowed and 1,500 were taken is 300 bytes past them.
 #[test]
 fn a_probe_violates_by_bytes(rt: HostRuntime) {
-    let cause = Cause::PastProbe {
-        allowance: 2400,
-        spent: Some(1500),
-    };
-    assert_eq!(rt; probe_amount(&cause), Some(300));
+    assert!(rt; amount_past_probes() == Some(300));
     assert!(rt; is_in_bytes(Rule::PastProbe));
 }
 
@@ -204,25 +248,32 @@ fn table() -> Table {
     table
 }
 
+/// Whether the table has the kinds that were noted, and a new one has none.
+fn has_what_was_noted() -> bool {
+    let table = table();
+    Table::new().is_empty() && table.has(Rule::TimerEarly) && !table.has(Rule::ProbeOwed)
+}
+
 /// The table has the kinds that were noted, and no others.
 #[test]
 fn the_table_has_what_was_noted(rt: HostRuntime) {
-    let table = table();
-    let found = [
-        Table::new().is_empty(),
-        table.has(Rule::TimerEarly),
-        table.has(Rule::ProbeOwed),
-    ];
-    assert_eq!(rt; found, [true, true, false]);
+    assert!(rt; has_what_was_noted());
+}
+
+/// The table of seventy events.
+const TABLE: &str =
+    ": departs 3 times in 70 events\n  V7 past-window: 2 times, lines 34 to 61, by at most 1068 bytes\n  V13 timer-early: once, line 50, by 200 us\n";
+
+/// Whether that is the text of the table.
+fn is_told(alloc: Global) -> bool {
+    match table().text(alloc, TimeUnit::Microseconds, 70) {
+        Ok(text) => text.as_str() == TABLE,
+        Err(_) => false,
+    }
 }
 
 /// The table has a row for each kind.
 #[test]
-fn the_table_has_a_row_for_each_kind(rt: HostRuntime) -> Result<(), Fail> {
-    let text = table().text(rt.alloc(), TimeUnit::Microseconds, 70)?;
-    assert_eq!(rt;
-        text.as_str(),
-        ": departs 3 times in 70 events\n  V7 past-window: 2 times, lines 34 to 61, by at most 1068 bytes\n  V13 timer-early: once, line 50, by 200 us\n"
-    );
-    Ok(())
+fn the_table_has_a_row_for_each_kind(rt: HostRuntime) {
+    assert!(rt; is_told(rt.alloc()));
 }
