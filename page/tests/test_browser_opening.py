@@ -28,18 +28,32 @@ REFUSED = len(TOO_MANY)
 class Ahead(Browsing):
     """The whole run is drawn ahead, out of sight."""
 
-    def setUp(self) -> None:
+    def open(self) -> None:
+        """Opens a page that shows a part of the run."""
         after = (sent(203 + n, 600_000 + 10_000 * n) for n in range(200))
         self.show(made(joined(*TOO_MANY, *after), is_strict=True))
 
     def test_nothing_of_it_is_seen(self) -> None:
+        self.open()
         before = self.browser.run(PIXELS), self.view()
         self.browser.wait("return qauditPage.isDrawnAhead()")
         self.browser.settled()
         self.assertEqual((self.browser.run(PIXELS), self.view()), before)
         self.assertEqual(self.browser.run("return qauditPage.frames()"), 1)
 
+    def test_a_browser_that_does_not_say_when_it_is_idle(self) -> None:
+        driver = self.of_chromium()
+        without = {"source": "window.requestIdleCallback = undefined"}
+        added = driver.execute_cdp_cmd("Page.addScriptToEvaluateOnNewDocument", without)
+        self.addCleanup(
+            driver.execute_cdp_cmd, "Page.removeScriptToEvaluateOnNewDocument", added
+        )
+        self.open()
+        self.browser.wait("return qauditPage.isDrawnAhead()")
+        self.assertEqual(self.browser.run("return qauditPage.frames()"), 1)
+
     def test_it_ends_once_the_run_is_shown(self) -> None:
+        self.open()
         self.key("0")
         self.browser.settled()
         self.assertTrue(self.browser.run("return qauditPage.isDrawnAhead()"))

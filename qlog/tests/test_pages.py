@@ -33,7 +33,7 @@ class Pages(unittest.TestCase):
 
 
     def test_what_is_set_for_each_kind_of_log(self) -> None:
-        words = [sys.executable, TOP / "qlog" / "dialects"]
+        words = [sys.executable, str(TOP / "qlog" / "dialects")]
         table = subprocess.run(words, capture_output=True, text=True, check=True).stdout
         page = (TOP / "docs" / "stacks.md").read_text()
         self.assertIn(f"\n\n{table}\n", page, "`qlog/dialects --write` mends it")
