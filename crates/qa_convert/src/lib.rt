@@ -7,6 +7,7 @@ mod flight;
 mod guess;
 mod law;
 mod noted;
+mod output;
 mod own;
 mod place;
 mod rounding;
