@@ -1,3 +1,4 @@
+pub mod Clocks
 pub mod Flights
 pub mod Guesses
 pub mod Outputs

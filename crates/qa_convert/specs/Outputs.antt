@@ -36,7 +36,7 @@ abbrev pub placed : Bool → Place → Place → Bool → Members → Members
 placed false first last guess ms = ms
 placed true first last guess ms =
     put (own_key_name keys.Place)
-    (string (stretch_text (record { first = first; last = last; is_guess = guess; }))) ms
+    (string (stretch_text (record { first = first; last = last; is_guess = guess }))) ms
 
 -- the own keys of a line that is from records that begin there: what was guessed, if anything, and
 -- where it is from, if that is asked for
