@@ -1,5 +1,5 @@
 -- What lines say and the log does not, in words.
-use Rattle.std.specs.Prelude.{ℕ, List, [], ◌∷◌, Bool, true, false, codes}
+use Rattle.std.specs.Prelude.{ℕ, ◌==◌, List, [], ◌∷◌, Bool, true, false, codes}
 use Rattle.serde_json.specs.Data.{Items, no_items, item, string}
 use Rattle.qa_convert.specs.declared.guess.Guess.{Guess}
 use Rattle.qa_convert.specs.declared.guess.Guess.TheVariants as guess
@@ -38,6 +38,37 @@ guess_text guess.LeaveProbe = codes "leave probe: a probe timeout allowed it"
 guess_text guess.LeaveRecovery =
     codes "leave recovery: the first packet past the window after it fell"
 guess_text guess.TimeBack = codes "time: it went back, and is that of the line before"
+
+-- their numbers, in the order in which they are declared
+abbrev pub guess_number : Guess → ℕ
+guess_number guess.DatagramByWindow = 0
+guess_number guess.DatagramByPacket = 1
+guess_number guess.DatagramLeast = 2
+guess_number guess.NoMaxAckDelay = 3
+guess_number guess.NoWindow = 4
+guess_number guess.HiddenWindow = 5
+guess_number guess.InitialRtt = 6
+guess_number guess.ProbeByCount = 7
+guess_number guess.ProbeByPing = 8
+guess_number guess.ProbeByRoom = 9
+guess_number guess.ProbeByTrigger = 10
+guess_number guess.Size = 11
+guess_number guess.SizeByGrowth = 12
+guess_number guess.TimerSpace = 13
+guess_number guess.LossTimer = 14
+guess_number guess.Discard = 15
+guess_number guess.Confirmed = 16
+guess_number guess.Delay = 17
+guess_number guess.Arrival = 18
+guess_number guess.Moment = 19
+guess_number guess.LimitedByWindow = 20
+guess_number guess.LeaveProbe = 21
+guess_number guess.LeaveRecovery = 22
+guess_number guess.TimeBack = 23
+
+-- both are one
+abbrev pub is_guess : Guess → Guess → Bool
+is_guess g h = guess_number g == guess_number h
 
 -- the log has no record of the line
 abbrev pub is_of_line : Guess → Bool

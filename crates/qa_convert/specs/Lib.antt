@@ -1,5 +1,7 @@
+pub mod Clocks
 pub mod Flights
 pub mod Guesses
+pub mod Outputs
 pub mod OwnKeys
 pub mod Places
 pub mod Rounding

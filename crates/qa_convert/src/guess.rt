@@ -2,7 +2,8 @@
 ghost use Rattle.std.specs.Prelude.{◌≡◌, OnErr, OnOk, IfOk};
 ghost use Rattle.serde_json.specs.Data.{array, put};
 ghost use Rattle.serde_json.specs.View.{members_view, view};
-ghost use Rattle.qa_convert.specs.Guesses.{guess_text, is_of_line, texts_of};
+ghost use Rattle.qa_convert.specs.Guesses.{guess_number, guess_text, is_guess, is_of_line};
+ghost use Rattle.qa_convert.specs.Guesses.{texts_of};
 ghost use Rattle.qa_convert.specs.OwnKeys.{AreOwn, own_key_name};
 ghost use Rattle.qa_convert.specs.declared.own.OwnKey.TheVariants as keys_of;
 
@@ -110,6 +111,20 @@ impl Guess {
             }
             Guess::TimeBack => "time: it went back, and is that of the line before",
         }
+    }
+
+    /// Its number, in the order in which they are declared.
+    fn number(self) -> u8
+        ensures { result ≡ guess_number self }
+    {
+        self as u8
+    }
+
+    /// Whether both are one.
+    pub(crate) fn is(self, other: Guess) -> bool
+        ensures { result ≡ is_guess self other }
+    {
+        self.number() == other.number()
     }
 
     /// Whether the log has no record of the line.

@@ -2,15 +2,18 @@
 //! where in the log they are from and what was guessed.
 #![tactic(auto)]
 
+mod clock;
 mod dialects;
 mod flight;
 mod guess;
 mod law;
 mod noted;
+mod output;
 mod own;
 mod place;
 mod rounding;
 
+pub use clock::Clock;
 pub use dialects::{Absent, Dialect, GENERIC, Limited, dialect_named, dialect_of};
 pub use flight::{Flight, Flying};
 pub use guess::{Guess, put_guesses};

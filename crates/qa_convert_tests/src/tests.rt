@@ -1,4 +1,5 @@
 //! Lines and flights that were worked out by hand.
+mod clock;
 mod dialects;
 mod flight;
 mod lines;

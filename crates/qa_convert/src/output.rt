@@ -1,0 +1,136 @@
+//! The lines of a trace, as they are written one after another.
+ghost use Rattle.std.specs.Prelude.{◌≡◌, ◌++◌, ◌∷◌, [], OnErr, OnOk, IfOk, true};
+ghost use Rattle.qa_base.specs.values.Events.{fits};
+ghost use Rattle.qa_convert.specs.Outputs.{are_of_line, in_unit, own_members};
+ghost use Rattle.qa_convert.specs.Outputs.{with_guess};
+ghost use Rattle.qa_convert.specs.Guesses.{is_guess};
+ghost use Rattle.std.specs.List.{list_any};
+ghost use Rattle.qa_convert.specs.OwnKeys.{AreOwn, noted};
+ghost use Rattle.serde_json.specs.View.{members_view};
+ghost use Rattle.qa_format.specs.declared.line.Line.TheVariants as lines;
+
+use crate::guess::{Guess, put_guesses};
+use crate::noted::{NotedFault, push_noted};
+use crate::own::OwnKeys;
+use crate::place::{Place, Stretch, put_stretch};
+use qa_base::{Event, TimeUnit};
+use qa_format::Line;
+use std::alloc::{AllocError, Global};
+
+/// The lines that were written, and what is said with the next one.
+pub(crate) struct Output {
+    alloc: Global,
+    /// The unit of the trace.
+    unit: TimeUnit,
+    /// Whether each line says where in the log it is from.
+    has_places: bool,
+    /// The text of the lines.
+    pub(crate) text: Vec<u8>,
+    /// What was guessed for the next line, in the order in which it was.
+    guesses: Vec<Guess>,
+}
+
+impl Output {
+    /// No lines yet. Takes no memory.
+    pub(crate) fn new(alloc: Global, unit: TimeUnit, has_places: bool) -> Output
+        ensures text { result.text.items ≡ [] }
+        ensures guesses { result.guesses.items ≡ [] }
+        ensures unit { result.unit ≡ unit }
+        ensures places { result.has_places ≡ has_places }
+    {
+        Output {
+            alloc,
+            unit,
+            has_places,
+            text: Vec::new(alloc),
+            guesses: Vec::new(alloc),
+        }
+    }
+
+    /// A time or a duration as the trace has it, rounded down.
+    pub(crate) fn in_unit(&self, nanoseconds: u64) -> u64
+        ensures { result ≡ in_unit self.now.unit nanoseconds }
+    {
+        match self.unit {
+            TimeUnit::Microseconds => nanoseconds / 1_000,
+            TimeUnit::Nanoseconds => nanoseconds,
+        }
+    }
+
+    /// The next line says that this was guessed. `AllocError` comes if it is out of memory, and
+    /// leaves what was guessed.
+    pub(crate) fn guess(&mut self, guess: Guess) -> Result<(), AllocError>
+        ensures ok { OnOk result (self.new.guesses.items
+            ≡ with_guess guess self.old.guesses.items) }
+        ensures err { OnErr result (self.new.guesses.items ≡ self.old.guesses.items) }
+        ensures text { self.new.text.items ≡ self.old.text.items }
+        ensures unit { self.new.unit ≡ self.old.unit }
+        ensures places { self.new.has_places ≡ self.old.has_places }
+    {
+        if !self.is_guessed(guess) {
+            self.guesses.push(guess)?;
+        }
+        Ok(())
+    }
+
+    /// Whether the next line says this already.
+    fn is_guessed(&self, guess: Guess) -> bool
+        ensures { result ≡ list_any (is_guess guess) self.now.guesses.items }
+    {
+        self.guesses.iter().any(|before| guess.is(*before))
+    }
+
+    /// Writes the line of an event that is from records that begin there, with what was guessed for
+    /// it.
+    ///
+    /// Asks for an event that fits (`Event::fits`). `TooLong` comes if the line is too long, and
+    /// leaves the text. After `OutOfMemory` it is of no use.
+    pub(crate) fn write(
+        &mut self,
+        event: Event,
+        first: Place,
+        last: Place,
+    ) -> Result<(), NotedFault>
+        requires { fits event ≡ true }
+        ensures ok { OnOk result (self.new.text.items ≡ self.old.text.items
+            ++ (noted (lines.Event event) (own_members self.old.has_places first last
+            self.old.guesses.items) ++ 10 ∷ [])) }
+        ensures guesses { OnOk result (self.new.guesses.items ≡ []) }
+        ensures unit { self.new.unit ≡ self.old.unit }
+        ensures places { self.new.has_places ≡ self.old.has_places }
+    {
+        let own = self.own_keys(first, last)?;
+        push_noted(self.alloc, &Line::Event(event), own, &mut self.text)?;
+        self.guesses.clear();
+        Ok(())
+    }
+
+    /// The own keys of the next line.
+    fn own_keys(&self, first: Place, last: Place) -> Result<OwnKeys, AllocError>
+        ensures keys { IfOk result (λ own. members_view own.entries
+            ≡ own_members self.now.has_places first last self.now.guesses.items) }
+        ensures own { IfOk result (λ own. AreOwn (members_view own.entries)) }
+    {
+        let mut own = OwnKeys::new(self.alloc);
+        if !self.guesses.is_empty() {
+            put_guesses(&mut own, self.alloc, &self.guesses)?;
+        }
+        if self.has_places {
+            let is_guess = self.has_line_guess();
+            let stretch = Stretch {
+                first,
+                last,
+                is_guess,
+            };
+            put_stretch(&mut own, self.alloc, stretch)?;
+        }
+        Ok(own)
+    }
+
+    /// Whether some guess is of a whole line.
+    fn has_line_guess(&self) -> bool
+        ensures { result ≡ are_of_line self.now.guesses.items }
+    {
+        self.guesses.iter().any(|guess| guess.is_of_line())
+    }
+}
