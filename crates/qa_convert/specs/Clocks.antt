@@ -3,7 +3,7 @@ use Rattle.std.specs.Prelude.{ℕ, ℤ, pos, negsuc, ◌+ℤ◌, ◌-ℤ◌, int
 use Rattle.std.specs.Prelude.{Option, Some, None, if◌then◌else◌}
 use Rattle.std.specs.Int.{saturate_signed, w64}
 use Rattle.qa_qlog.specs.declared.heads.TimeForm.{TimeForm}
-use Rattle.qa_qlog.specs.declared.heads.TimeForm.TheVariants.{Absolute, Relative, Delta}
+use Rattle.qa_qlog.specs.declared.heads.TimeForm.TheVariants.{Absolute, Delta}
 
 abbrev pub is_absolute : TimeForm → Bool
 is_absolute Absolute = true

@@ -1,6 +1,7 @@
 pub mod Clocks
 pub mod Flights
 pub mod Guesses
+pub mod Packets
 pub mod Outputs
 pub mod OwnKeys
 pub mod Places

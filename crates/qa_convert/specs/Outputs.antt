@@ -1,5 +1,5 @@
 -- What is written with a line.
-use Rattle.std.specs.Prelude.{◌/◌, ◌||◌, ◌++◌, ℕ, Bool, true, false, List, [], ◌∷◌}
+use Rattle.std.specs.Prelude.{◌/◌, ◌++◌, ℕ, Bool, true, false, List, [], ◌∷◌}
 use Rattle.std.specs.Prelude.{if◌then◌else◌}
 use Rattle.std.specs.List.{list_any}
 use Rattle.serde_json.specs.Data.{Members, array, no_members, put, string}
@@ -9,7 +9,6 @@ use Rattle.qa_convert.specs.Guesses.{is_guess, is_of_line, texts_of}
 use Rattle.qa_convert.specs.OwnKeys.{own_key_name}
 use Rattle.qa_convert.specs.Places.{stretch_text}
 use Rattle.qa_convert.specs.declared.guess.Guess.{Guess}
-use Rattle.qa_convert.specs.declared.guess.Guess.TheVariants as guess
 use Rattle.qa_convert.specs.declared.own.OwnKey.TheVariants as keys
 use Rattle.qa_convert.specs.declared.place.Place.{Place}
 

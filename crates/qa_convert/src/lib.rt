@@ -10,6 +10,7 @@ mod law;
 mod noted;
 mod output;
 mod own;
+mod packet;
 mod place;
 mod rounding;
 
@@ -20,5 +21,6 @@ pub use guess::{Guess, put_guesses};
 pub use law::{own_keys_are_passed_over, written_lines_are_read};
 pub use noted::{NotedFault, push_noted};
 pub use own::{OwnKey, OwnKeys, put_text};
+pub use packet::{LoggedAck, LoggedPacket, NoEvent};
 pub use place::{Place, Stretch, put_stretch};
 pub use rounding::{Age, Delays, Estimate, Reports, Sample};

@@ -3,4 +3,5 @@ mod clock;
 mod dialects;
 mod flight;
 mod lines;
+mod packets;
 mod rounding;

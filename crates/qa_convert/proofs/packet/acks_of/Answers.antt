@@ -1,0 +1,19 @@
+use Rattle.std.proofs.Common.{◌≡◌, List, Option, Result, Ok, Err, Vec, Global}
+use Rattle.std.specs.Prelude.{IfOk}
+use Rattle.json.specs.Json.{Json}
+use Rattle.qa_qlog.specs.Frames.{frames, listed}
+use Rattle.qa_convert.specs.Packets.{AreAcksOf}
+use Rattle.qa_convert.specs.declared.packet.LoggedAck.{LoggedAck}
+use Rattle.qa_convert.proofs.packet.acks_of.Goals as goal
+
+-- what is kept of the frames that the data has
+kept_of : {A E : Type 0} (P : List Json → A → Type 0) (r : Result A E) (d : Option Json) (js : List Json) → frames d ≡ Ok js → IfOk r (P js)
+    → IfOk r (λ kept. (found : List Json) × (frames d ≡ Ok found) × P found kept)
+kept_of P (Ok kept) d js has all = (js, has, all)
+kept_of P (Err e) d js has all = tt
+
+pub returns-in-Some : goal.returns-in-Some
+returns-in-Some c d finds =
+    let given = rw c.in-Some.is at (c.in_ok-frames.ensures d finds) in
+    let keeps = λ (js : List Json) (kept : Vec LoggedAck Global). AreAcksOf c.args.unit js kept.items in
+    kept_of keeps c.acks_among.result d (listed given.0) given.1 (c.acks_among.ensures given.0 given.2)

@@ -1,0 +1,208 @@
+//! What a log says of a packet, so that it can be kept once its record is gone.
+ghost use Rattle.std.specs.Prelude.{◌≡◌, ◌++◌, ◌∷◌, [], IfOk, List, Ok, OnOk, Option, map};
+ghost use Rattle.json.specs.Json as json;
+ghost use Rattle.json.specs.Json.{Json};
+ghost use Rattle.json.specs.Find.{BeginsWith, Finds, InItems};
+ghost use Rattle.qa_convert.specs.Packets as packets;
+ghost use Rattle.qa_convert.specs.Packets.{AreAcksOf, GivesPacket, IsAckOf, Keeps};
+ghost use Rattle.qa_convert.specs.declared.packet.LoggedAck.{LoggedAck as Kept};
+ghost use Rattle.qa_qlog.specs.Frames as frames;
+ghost use Rattle.qa_qlog.specs.Frames.{listed};
+
+use json::{Element, Items};
+use qa_base::{Space, Spans};
+use qa_qlog::{
+    Content, FrameType, NoRanges, NoValue, Packet, Unit, ack_delay, acked_ranges, ce_count,
+    frame_type, is_probe,
+};
+use std::alloc::{AllocError, Global};
+use thiserror::Error;
+
+/// Why a record gives no event.
+#[derive(Clone, Copy, Debug, PartialEq, Eq, Error)]
+pub enum NoEvent {
+    /// It does not say what it has to.
+    #[error("{0}")]
+    Unread(NoValue),
+    /// Out of memory.
+    #[error("out of memory")]
+    OutOfMemory,
+}
+
+impl From<NoValue> for NoEvent {
+    ghost use Rattle.std.specs.Prelude.{◌≡◌};
+    ghost use Rattle.qa_convert.specs.declared.packet.NoEvent.TheVariants as no_event;
+
+    ghost from_gives = { λ fault result. result ≡ no_event.Unread fault };
+
+    fn from(fault: NoValue) -> Self {
+        NoEvent::Unread(fault)
+    }
+}
+
+impl From<AllocError> for NoEvent {
+    ghost use Rattle.std.specs.Prelude.{◌≡◌};
+    ghost use Rattle.qa_convert.specs.declared.packet.NoEvent.TheVariants as no_event;
+
+    ghost from_gives = { λ _ result. result ≡ no_event.OutOfMemory };
+
+    fn from(_refused: AllocError) -> Self {
+        NoEvent::OutOfMemory
+    }
+}
+
+impl From<NoRanges> for NoEvent {
+    fn from(fault: NoRanges) -> Self {
+        match fault {
+            NoRanges::Unread(fault) => NoEvent::Unread(fault),
+            NoRanges::OutOfMemory => NoEvent::OutOfMemory,
+        }
+    }
+}
+
+/// An ACK frame.
+#[derive(Drop)]
+pub struct LoggedAck {
+    /// The ranges, in the order of the frame.
+    pub ranges: Spans,
+    /// The delay in nanoseconds, not shifted.
+    pub delay: u64,
+    /// Whether it reports packets marked by ECN-CE.
+    pub has_marks: bool,
+}
+
+/// A packet of a packet number space.
+#[derive(Drop)]
+pub struct LoggedPacket {
+    /// Its space.
+    pub space: Space,
+    /// Its number.
+    pub number: u64,
+    /// Its size in bytes, if the log has it.
+    pub size: Option<u64>,
+    /// What its frames make of it.
+    pub content: Content,
+    /// Whether it says that a probe timeout sent it.
+    pub is_probe: bool,
+    /// Its ACK frames.
+    pub acks: Vec<LoggedAck>,
+}
+
+impl LoggedPacket {
+    /// The packet of which this is the data; None if it is of no space. Durations have this unit.
+    pub fn of<'t, 'a>(
+        alloc: Global,
+        data: Option<Element<'t, 'a>>,
+        unit: Unit,
+    ) -> Result<Option<LoggedPacket>, NoEvent>
+        ensures { (d : Option Json) → Finds data.entry d → IfOk result (GivesPacket unit d) }
+    {
+        let is_probe = is_probe(&data);
+        let packet = Packet::of(data);
+        let Some(space) = space_of(&packet) else {
+            return Ok(None);
+        };
+        let number = packet.number()?;
+        let size = packet.size()?;
+        let content = content_of(&packet)?;
+        let acks = acks_of(alloc, &packet, unit)?;
+        Ok(Some(LoggedPacket {
+            space,
+            number,
+            size,
+            content,
+            is_probe,
+            acks,
+        }))
+    }
+}
+
+/// The packet number space of a packet, if it has one.
+fn space_of(packet: &Packet<'_, '_>) -> Option<Space>
+    ensures { (h d : Option Json) → Finds packet.now.header h → Finds packet.now.data d
+        → result ≡ packets.space_of h d }
+{
+    match packet.packet_type() {
+        Some(kind) => kind.space(),
+        None => None,
+    }
+}
+
+/// What its frames make of a packet.
+fn content_of(packet: &Packet<'_, '_>) -> Result<Content, NoValue>
+    ensures { (d : Option Json) → Finds packet.now.data d → IfOk result (λ content.
+        (js : List Json) × (frames.frames d ≡ Ok js)
+        × (content ≡ frames.content (map frames.type_of js))) }
+{
+    match packet.frames()? {
+        Some(frames) => Ok(Content::of(frames)),
+        None => Ok(Content::none()),
+    }
+}
+
+/// The ACK frames of a packet.
+fn acks_of(alloc: Global, packet: &Packet<'_, '_>, unit: Unit) -> Result<Vec<LoggedAck>, NoEvent>
+    ensures { (d : Option Json) → Finds packet.now.data d → IfOk result (λ acks.
+        (js : List Json) × (frames.frames d ≡ Ok js) × AreAcksOf unit js acks.items) }
+{
+    match packet.frames()? {
+        Some(frames) => acks_among(alloc, frames, unit),
+        None => Ok(Vec::new(alloc)),
+    }
+}
+
+/// The ACK frames among frames.
+fn acks_among(alloc: Global, frames: Items<'_, '_>, unit: Unit) -> Result<Vec<LoggedAck>, NoEvent>
+    ensures { (js : json.Items) → InItems frames.entry js
+        → IfOk result (λ acks. AreAcksOf unit (listed js) acks.items) }
+{
+    let mut frames = frames;
+    let mut acks = Vec::new(alloc);
+    while let Some(frame) = frames.next() {
+        keep(alloc, &frame, unit, &mut acks)?;
+    }
+    Ok(acks)
+}
+
+/// Adds a frame to the ACK frames, if it is one.
+fn keep(
+    alloc: Global,
+    frame: &Element<'_, '_>,
+    unit: Unit,
+    acks: &mut Vec<LoggedAck>,
+) -> Result<(), NoEvent>
+    ensures { (j : Json) → BeginsWith frame.now j → OnOk result ((kept : List Kept)
+        × (acks.new.items ≡ acks.old.items ++ kept) × Keeps unit j kept) }
+{
+    if is_ack(frame) {
+        let ack = ack_of(alloc, frame, unit)?;
+        push(acks, ack)?;
+    }
+    Ok(())
+}
+
+/// Whether a frame is an ACK frame.
+fn is_ack(frame: &Element<'_, '_>) -> bool
+    ensures { (j : Json) → BeginsWith frame.now j → result ≡ packets.is_ack (frames.type_of j) }
+{
+    matches!(frame_type(frame), FrameType::Ack)
+}
+
+/// Adds an ACK frame behind the others.
+fn push(acks: &mut Vec<LoggedAck>, ack: LoggedAck) -> Result<(), AllocError>
+    ensures { OnOk result (acks.new.items ≡ acks.old.items ++ ack ∷ []) }
+{
+    acks.push(ack)?;
+    Ok(())
+}
+
+/// What an ACK frame says.
+fn ack_of(alloc: Global, frame: &Element<'_, '_>, unit: Unit) -> Result<LoggedAck, NoEvent>
+    ensures { (j : Json) → BeginsWith frame.now j → IfOk result (IsAckOf unit j) }
+{
+    Ok(LoggedAck {
+        ranges: acked_ranges(alloc, frame)?,
+        delay: ack_delay(frame, unit, 0)?,
+        has_marks: 0 < ce_count(frame)?,
+    })
+}
