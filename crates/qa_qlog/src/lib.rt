@@ -39,7 +39,7 @@ pub use names::EventName;
 pub use numbers::{duration_in, whole_in};
 pub use packets::{Packet, PacketType};
 pub use parameters::{is_of_peer, max_ack_delay};
-pub use records::EventHead;
+pub use records::{EventHead, path_id};
 pub use secrets::key_space;
 pub use texts::{Mark, Text, TextFault, Texts};
 pub use timers::{has_expired, timer_kind, timer_space};
