@@ -5,7 +5,7 @@ ghost use Rattle.json.specs.Json.{Json};
 ghost use Rattle.json.specs.Json as json;
 ghost use Rattle.json.specs.Find.{BeginsWith, InItems, Finds};
 ghost use Rattle.qa_qlog.specs.Frames as frames;
-ghost use Rattle.qa_qlog.specs.FrameLists.{GivesFrames};
+ghost use Rattle.qa_qlog.specs.Lists.{GivesItems};
 ghost use Rattle.qa_qlog.specs.Names.{type_in};
 ghost use Rattle.qa_qlog.specs.Says as said;
 
@@ -122,7 +122,7 @@ impl<'t, 'a> Packet<'t, 'a> {
     /// The frames, each an object; None if the record has none.
     pub fn frames(&self) -> Result<Option<Items<'t, 'a>>, NoValue>
         ensures { (d : Option Json) → Finds self.now.data d
-            → GivesFrames result (frames.frames d) }
+            → GivesItems result (frames.frames d) }
     {
         let Some(value) = key_at(&self.data, "frames") else {
             return Ok(None);
@@ -147,7 +147,7 @@ pub(crate) fn objects_in<'t, 'a>(
     key: Key,
 ) -> Result<Option<Items<'t, 'a>>, NoValue>
     ensures { (j : Json) → BeginsWith value.now j
-        → GivesFrames result (frames.objects_in key j) }
+        → GivesItems result (frames.objects_in key j) }
 {
     let Some(items) = value.items() else {
         return Err(NoValue::OtherKind(key));

@@ -3,7 +3,7 @@
 ghost use Rattle.std.specs.Prelude.{◌≡◌, Option};
 ghost use Rattle.json.specs.Json.{Json};
 ghost use Rattle.json.specs.Find.{Finds};
-ghost use Rattle.qa_qlog.specs.FrameLists.{GivesFrames};
+ghost use Rattle.qa_qlog.specs.Lists.{GivesItems};
 ghost use Rattle.qa_qlog.specs.Losses as losses;
 
 use crate::frames::objects_in;
@@ -15,7 +15,7 @@ use json::{Element, Items};
 pub fn lost_packets<'t, 'a>(
     data: &Option<Element<'t, 'a>>,
 ) -> Result<Option<Items<'t, 'a>>, NoValue>
-    ensures { (d : Option Json) → Finds data.now d → GivesFrames result (losses.packets d) }
+    ensures { (d : Option Json) → Finds data.now d → GivesItems result (losses.packets d) }
 {
     match key_at(data, "packets") {
         Some(packets) => objects_in(&packets, Key::Packets),
