@@ -60,11 +60,11 @@ impl Head {
 }
 
 /// The path of an event in multipath QUIC, as the group of a record.
-pub fn path_id<'a>(data: &Option<Element<'_, 'a>>) -> Option<&'a str>
-    ensures { (d : Option Json) → Finds data.now d
+pub fn path_id<'a>(object: &Option<Element<'_, 'a>>) -> Option<&'a str>
+    ensures { (d : Option Json) → Finds object.now d
         → option_map (λ s. s.now) result ≡ records.path_of d }
 {
-    match key_at(data, "path_id") {
+    match key_at(object, "path_id") {
         Some(found) => Some(written(&found)),
         None => None,
     }
