@@ -1,10 +1,11 @@
 pub mod Acks
-pub mod FrameLists
+pub mod Documents
 pub mod Frames
 pub mod Heads
 pub mod Keys
 pub mod Kinds
 pub mod Lengths
+pub mod Lists
 pub mod Losses
 pub mod Marks
 pub mod Metrics

@@ -1,6 +1,6 @@
 -- The head of a record: its name, its time and its data, wherever its draft has them.
 use Rattle.std.specs.Prelude.{ℕ, ℤ, pos, List, [], ◌∷◌, codes, Option, Some, None, Result, Ok}
-use Rattle.std.specs.Prelude.{if◌then◌else◌}
+use Rattle.std.specs.Prelude.{option_map, if◌then◌else◌}
 use Rattle.std.specs.Option.{option_or, unwrap_or}
 use Rattle.json.specs.Json.{Json, Items, no_items, item, Members, no_members, member}
 use Rattle.json.specs.Find.{get, get_member, as_str, as_number, as_array}
@@ -9,7 +9,7 @@ use Rattle.qa_qlog.specs.declared.times.NoTime.{NoTime}
 use Rattle.qa_qlog.specs.declared.times.Unit.{Unit}
 use Rattle.qa_qlog.specs.Heads.{◌>>=◌}
 use Rattle.qa_qlog.specs.Names.{named}
-use Rattle.qa_qlog.specs.Says.{says_at, is_given, is_object, text_at}
+use Rattle.qa_qlog.specs.Says.{says_at, is_given, is_object, key_at, text_at}
 use Rattle.qa_qlog.specs.Times.{time}
 
 -- ---- keys
@@ -95,3 +95,13 @@ object_only (Some j) = if is_object j then Some j else None
 -- the object that a record has for its data
 abbrev pub data_of : List (List ℕ) → Json → Option Json
 data_of fields j = object_only (at_key fields (codes "data") j)
+
+-- ---- connections
+
+-- the group of a record, by which a log tells connections apart
+abbrev pub group_of : List (List ℕ) → Json → Option (List ℕ)
+group_of fields j = option_map written (at_key fields (codes "group_id") j)
+
+-- the path of an event in multipath QUIC (draft-ietf-quic-multipath)
+abbrev pub path_of : Option Json → Option (List ℕ)
+path_of d = option_map written (key_at (codes "path_id") d)

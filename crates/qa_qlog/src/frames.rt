@@ -5,7 +5,7 @@ ghost use Rattle.json.specs.Json.{Json};
 ghost use Rattle.json.specs.Json as json;
 ghost use Rattle.json.specs.Find.{BeginsWith, InItems, Finds};
 ghost use Rattle.qa_qlog.specs.Frames as frames;
-ghost use Rattle.qa_qlog.specs.FrameLists.{GivesFrames};
+ghost use Rattle.qa_qlog.specs.Lists.{GivesItems};
 ghost use Rattle.qa_qlog.specs.Names.{type_in};
 ghost use Rattle.qa_qlog.specs.Says as said;
 
@@ -121,10 +121,10 @@ fn type_at<'t, 'a>(frame: &Element<'t, 'a>) -> Option<Element<'t, 'a>>
 impl<'t, 'a> Packet<'t, 'a> {
     /// The frames, each an object; None if the record has none.
     pub fn frames(&self) -> Result<Option<Items<'t, 'a>>, NoValue>
-        ensures { (d : Option Json) → Finds self.now.data d
-            → GivesFrames result (frames.frames d) }
+        ensures { (d : Option Json) → Finds self.now.object d
+            → GivesItems result (frames.frames d) }
     {
-        let Some(value) = key_at(&self.data, "frames") else {
+        let Some(value) = key_at(&self.object, "frames") else {
             return Ok(None);
         };
         if !says(&value) {
@@ -135,9 +135,9 @@ impl<'t, 'a> Packet<'t, 'a> {
 
     /// Whether the record has a list of frames, also if it is empty or no list.
     pub fn has_frames(&self) -> bool
-        ensures { (d : Option Json) → Finds self.now.data d → result ≡ frames.has_frames d }
+        ensures { (d : Option Json) → Finds self.now.object d → result ≡ frames.has_frames d }
     {
-        key_at(&self.data, "frames").is_some()
+        key_at(&self.object, "frames").is_some()
     }
 }
 
@@ -147,7 +147,7 @@ pub(crate) fn objects_in<'t, 'a>(
     key: Key,
 ) -> Result<Option<Items<'t, 'a>>, NoValue>
     ensures { (j : Json) → BeginsWith value.now j
-        → GivesFrames result (frames.objects_in key j) }
+        → GivesItems result (frames.objects_in key j) }
 {
     let Some(items) = value.items() else {
         return Err(NoValue::OtherKind(key));

@@ -127,8 +127,9 @@ fn by_value(alloc: Global, value: &Element<'_, '_>) -> Result<Head, NoHead>
     }
 }
 
-/// The head that an object is, with what its `trace` says.
-fn head_in(
+/// The head that an object is, with what its `trace` says: so that of a trace in a document, and
+/// that of a log of many texts. What the trace says counts for more.
+pub fn head_in(
     alloc: Global,
     head: &Element<'_, '_>,
     trace: &Option<Element<'_, '_>>,

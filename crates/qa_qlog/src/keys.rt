@@ -36,6 +36,10 @@ pub enum Key {
     Ce,
     /// The packets that are lost.
     Packets,
+    /// The traces of a document.
+    Traces,
+    /// The records of a trace.
+    Events,
     /// The last sample of the round-trip time.
     LatestRtt,
     /// The least sample of the round-trip time.
@@ -87,6 +91,8 @@ impl Key {
             Key::AckDelay => "ack_delay",
             Key::Ce => "ce",
             Key::Packets => "packets",
+            Key::Traces => "traces",
+            Key::Events => "events",
             Key::LatestRtt => "latest_rtt",
             Key::MinRtt => "min_rtt",
             Key::SmoothedRtt => "smoothed_rtt",

@@ -14,15 +14,15 @@ use json::Element;
 impl<'t, 'a> Packet<'t, 'a> {
     /// How many bytes its frames have together, if the record says it.
     pub fn payload_length(&self) -> Result<Option<u64>, NoValue>
-        ensures { (d : Option Json) → Finds self.now.data d → result ≡ lengths.payload d }
+        ensures { (d : Option Json) → Finds self.now.object d → result ≡ lengths.payload d }
     {
-        let raw = key_at(&self.data, "raw");
+        let raw = key_at(&self.object, "raw");
         optional_at(&key_at(&raw, "payload_length"), Key::PayloadLength)
     }
 
     /// The length of the packet that its header says, if it says one.
     pub fn header_length(&self) -> Result<Option<u64>, NoValue>
-        ensures { (h d : Option Json) → Finds self.now.header h → Finds self.now.data d
+        ensures { (h d : Option Json) → Finds self.now.header h → Finds self.now.object d
             → result ≡ lengths.header h d }
     {
         optional_at(&self.in_header("length"), Key::HeaderLength)
@@ -30,7 +30,7 @@ impl<'t, 'a> Packet<'t, 'a> {
 
     /// The connection ID to which it goes, in hexadecimal digits.
     pub fn destination(&self) -> Option<&'a str>
-        ensures { (h d : Option Json) → Finds self.now.header h → Finds self.now.data d
+        ensures { (h d : Option Json) → Finds self.now.header h → Finds self.now.object d
             → option_map (λ s. s.now) result ≡ lengths.destination h d }
     {
         text_at(&self.in_header("dcid"))
@@ -38,7 +38,7 @@ impl<'t, 'a> Packet<'t, 'a> {
 
     /// The connection ID from which it comes, in hexadecimal digits.
     pub fn source(&self) -> Option<&'a str>
-        ensures { (h d : Option Json) → Finds self.now.header h → Finds self.now.data d
+        ensures { (h d : Option Json) → Finds self.now.header h → Finds self.now.object d
             → option_map (λ s. s.now) result ≡ lengths.source h d }
     {
         text_at(&self.in_header("scid"))
@@ -46,7 +46,7 @@ impl<'t, 'a> Packet<'t, 'a> {
 
     /// The token of an Initial packet, in hexadecimal digits.
     pub fn token(&self) -> Option<&'a str>
-        ensures { (h d : Option Json) → Finds self.now.header h → Finds self.now.data d
+        ensures { (h d : Option Json) → Finds self.now.header h → Finds self.now.object d
             → option_map (λ s. s.now) result ≡ lengths.token h d }
     {
         let token = self.in_header("token");

@@ -5,6 +5,7 @@
 #![tactic(auto)]
 
 mod acks;
+mod documents;
 mod fields;
 mod frames;
 mod heads;
@@ -26,9 +27,10 @@ mod timers;
 mod times;
 
 pub use acks::{NoRanges, ack_delay, acked_ranges, ce_count};
+pub use documents::{records_of, traces_of};
 pub use fields::Fields;
 pub use frames::{Content, FrameType, frame_type};
-pub use heads::{Head, NoHead, TimeForm, head_of};
+pub use heads::{Head, NoHead, TimeForm, head_in, head_of};
 pub use keys::{Key, NoValue};
 pub use kinds::{Kind, NoLog, kind_of};
 pub use law::texts_whatever_the_parts;
@@ -39,7 +41,7 @@ pub use names::EventName;
 pub use numbers::{duration_in, whole_in};
 pub use packets::{Packet, PacketType};
 pub use parameters::{is_of_peer, max_ack_delay};
-pub use records::EventHead;
+pub use records::{EventHead, path_id};
 pub use secrets::key_space;
 pub use texts::{Mark, Text, TextFault, Texts};
 pub use timers::{has_expired, timer_kind, timer_space};

@@ -37,13 +37,13 @@ pub struct ByteCounts {
 }
 
 /// The round-trip times that a report says, in a log whose durations have this unit.
-pub fn reported_rtts(data: &Option<Element<'_, '_>>, unit: Unit) -> Result<Rtts, NoValue>
-    ensures { (d : Option Json) → Finds data.now d → result ≡ metrics.rtts unit d }
+pub fn reported_rtts(object: &Option<Element<'_, '_>>, unit: Unit) -> Result<Rtts, NoValue>
+    ensures { (d : Option Json) → Finds object.now d → result ≡ metrics.rtts unit d }
 {
-    let latest = duration_in(data, Key::LatestRtt, unit);
-    let min = duration_in(data, Key::MinRtt, unit);
-    let smoothed = duration_in(data, Key::SmoothedRtt, unit);
-    let variance = duration_in(data, Key::RttVariance, unit);
+    let latest = duration_in(object, Key::LatestRtt, unit);
+    let min = duration_in(object, Key::MinRtt, unit);
+    let smoothed = duration_in(object, Key::SmoothedRtt, unit);
+    let variance = duration_in(object, Key::RttVariance, unit);
     rtts_of(latest, min, smoothed, variance)
 }
 
@@ -65,12 +65,12 @@ fn rtts_of(
 }
 
 /// The byte counts that a report says.
-pub fn reported_bytes(data: &Option<Element<'_, '_>>) -> Result<ByteCounts, NoValue>
-    ensures { (d : Option Json) → Finds data.now d → result ≡ metrics.sizes d }
+pub fn reported_bytes(object: &Option<Element<'_, '_>>) -> Result<ByteCounts, NoValue>
+    ensures { (d : Option Json) → Finds object.now d → result ≡ metrics.sizes d }
 {
-    let window = window(data);
-    let ssthresh = ssthresh(data);
-    let in_flight = whole_in(data, Key::BytesInFlight);
+    let window = window(object);
+    let ssthresh = ssthresh(object);
+    let in_flight = whole_in(object, Key::BytesInFlight);
     sizes_of(window, ssthresh, in_flight)
 }
 
@@ -90,42 +90,42 @@ fn sizes_of(
 }
 
 /// The congestion window.
-fn window(data: &Option<Element<'_, '_>>) -> Result<Option<u64>, NoValue>
-    ensures { (d : Option Json) → Finds data.now d → result ≡ metrics.window d }
+fn window(object: &Option<Element<'_, '_>>) -> Result<Option<u64>, NoValue>
+    ensures { (d : Option Json) → Finds object.now d → result ≡ metrics.window d }
 {
-    optional_at(&window_at(data), Key::CongestionWindow)
+    optional_at(&window_at(object), Key::CongestionWindow)
 }
 
 /// What is given at the first of the keys for the window.
-fn window_at<'t, 'a>(data: &Option<Element<'t, 'a>>) -> Option<Element<'t, 'a>>
-    ensures { (d : Option Json) → Finds data.now d → Finds result (metrics.window_at d) }
+fn window_at<'t, 'a>(object: &Option<Element<'t, 'a>>) -> Option<Element<'t, 'a>>
+    ensures { (d : Option Json) → Finds object.now d → Finds result (metrics.window_at d) }
 {
-    let found = key_at(data, "congestion_window");
+    let found = key_at(object, "congestion_window");
     if is_given(&found) {
         return found;
     }
-    let found = key_at(data, "cwnd");
+    let found = key_at(object, "cwnd");
     if is_given(&found) {
         return found;
     }
-    key_at(data, "current_cwnd")
+    key_at(object, "current_cwnd")
 }
 
 /// The slow start threshold; above 2^62 - 1 there is none.
-fn ssthresh(data: &Option<Element<'_, '_>>) -> Result<Option<u64>, NoValue>
-    ensures { (d : Option Json) → Finds data.now d → result ≡ metrics.ssthresh d }
+fn ssthresh(object: &Option<Element<'_, '_>>) -> Result<Option<u64>, NoValue>
+    ensures { (d : Option Json) → Finds object.now d → result ≡ metrics.ssthresh d }
 {
-    match whole_in(data, Key::Ssthresh) {
+    match whole_in(object, Key::Ssthresh) {
         Ok(Some(size)) if PacketNumber::MAX < size => Ok(None),
         other => other,
     }
 }
 
 /// Whether all that a report says is the count of probe timeouts.
-pub fn has_only_pto_count(data: &Element<'_, '_>) -> bool
-    ensures { (j : Json) → BeginsWith data.now j → result ≡ metrics.has_only_pto_count j }
+pub fn has_only_pto_count(object: &Element<'_, '_>) -> bool
+    ensures { (j : Json) → BeginsWith object.now j → result ≡ metrics.has_only_pto_count j }
 {
-    match data.members() {
+    match object.members() {
         Some(members) => are_only(members, "pto_count"),
         None => false,
     }

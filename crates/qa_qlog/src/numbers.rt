@@ -118,22 +118,22 @@ pub(crate) fn duration_or_zero(
 }
 
 /// The whole number that the data of a record has at a key; none if there is nothing, or null.
-pub fn whole_in(data: &Option<Element<'_, '_>>, key: Key) -> Result<Option<u64>, NoValue>
-    ensures { (d : Option Json) → Finds data.now d → result ≡ numbers.whole_in key d }
+pub fn whole_in(object: &Option<Element<'_, '_>>, key: Key) -> Result<Option<u64>, NoValue>
+    ensures { (d : Option Json) → Finds object.now d → result ≡ numbers.whole_in key d }
 {
-    optional_at(&key_at(data, key.name()), key)
+    optional_at(&key_at(object, key.name()), key)
 }
 
 /// The nanoseconds of the duration that the data of a record has at a key, in a log whose durations
 /// have this unit; none if there is nothing, or null.
 pub fn duration_in(
-    data: &Option<Element<'_, '_>>,
+    object: &Option<Element<'_, '_>>,
     key: Key,
     unit: Unit,
 ) -> Result<Option<u64>, NoValue>
-    ensures { (d : Option Json) → Finds data.now d → result ≡ numbers.duration_in key unit d }
+    ensures { (d : Option Json) → Finds object.now d → result ≡ numbers.duration_in key unit d }
 {
-    optional_duration(&key_at(data, key.name()), key, unit)
+    optional_duration(&key_at(object, key.name()), key, unit)
 }
 
 /// The nanoseconds of the duration at a key; none if there is nothing, or null.

@@ -83,33 +83,33 @@ pub struct Packet<'t, 'a> {
     /// The object of its header, if the record has one.
     pub header: Option<Element<'t, 'a>>,
     /// The data of the record; logs without headers have the keys of the header here.
-    pub data: Option<Element<'t, 'a>>,
+    pub object: Option<Element<'t, 'a>>,
 }
 
 impl<'t, 'a> Packet<'t, 'a> {
     /// The packet of which this is the data.
-    pub fn of(data: Option<Element<'t, 'a>>) -> Packet<'t, 'a>
-        ensures { (d : Option Json) → Finds data.entry d → Finds result.data d
+    pub fn of(object: Option<Element<'t, 'a>>) -> Packet<'t, 'a>
+        ensures { (d : Option Json) → Finds object.entry d → Finds result.object d
             × Finds result.header (packets.header_of d) }
     {
-        let header = object_only(key_at(&data, "header"));
-        Packet { header, data }
+        let header = object_only(key_at(&object, "header"));
+        Packet { header, object }
     }
 
     /// What the header says at a key.
     pub(crate) fn in_header(&self, key: &str) -> Option<Element<'t, 'a>>
-        ensures { (h d : Option Json) → Finds self.now.header h → Finds self.now.data d
+        ensures { (h d : Option Json) → Finds self.now.header h → Finds self.now.object d
             → Finds result (packets.in_header h d key.now) }
     {
         match &self.header {
             Some(header) => header.get(key),
-            None => key_at(&self.data, key),
+            None => key_at(&self.object, key),
         }
     }
 
     /// The type, if one is said.
     pub fn packet_type(&self) -> Option<PacketType>
-        ensures { (h d : Option Json) → Finds self.now.header h → Finds self.now.data d
+        ensures { (h d : Option Json) → Finds self.now.header h → Finds self.now.object d
             → result ≡ packets.type_of h d }
     {
         let found = self.type_at();
@@ -122,35 +122,35 @@ impl<'t, 'a> Packet<'t, 'a> {
 
     /// What is said at the first of the keys for the type that says anything.
     fn type_at(&self) -> Option<Element<'t, 'a>>
-        ensures { (h d : Option Json) → Finds self.now.header h → Finds self.now.data d
+        ensures { (h d : Option Json) → Finds self.now.header h → Finds self.now.object d
             → Finds result (packets.type_at h d) }
     {
         let found = self.in_header("packet_type");
         if says_at(&found) {
             return found;
         }
-        let found = key_at(&self.data, "packet_type");
+        let found = key_at(&self.object, "packet_type");
         if says_at(&found) {
             return found;
         }
-        key_at(&self.data, "type")
+        key_at(&self.object, "type")
     }
 
     /// The number.
     pub fn number(&self) -> Result<u64, NoValue>
-        ensures { (h d : Option Json) → Finds self.now.header h → Finds self.now.data d
+        ensures { (h d : Option Json) → Finds self.now.header h → Finds self.now.object d
             → result ≡ packets.number h d }
     {
         let found = self.in_header("packet_number");
         if is_given(&found) {
             return whole_at(&found, Key::PacketNumber);
         }
-        whole_at(&key_at(&self.data, "packet_number"), Key::PacketNumber)
+        whole_at(&key_at(&self.object, "packet_number"), Key::PacketNumber)
     }
 
     /// The size of the whole packet in bytes, if it is said.
     pub fn size(&self) -> Result<Option<u64>, NoValue>
-        ensures { (h d : Option Json) → Finds self.now.header h → Finds self.now.data d
+        ensures { (h d : Option Json) → Finds self.now.header h → Finds self.now.object d
             → result ≡ packets.size h d }
     {
         optional_at(&self.size_at(), Key::Length)
@@ -158,10 +158,10 @@ impl<'t, 'a> Packet<'t, 'a> {
 
     /// What is said at the first of the keys for the size that says anything; else at the first.
     fn size_at(&self) -> Option<Element<'t, 'a>>
-        ensures { (h d : Option Json) → Finds self.now.header h → Finds self.now.data d
+        ensures { (h d : Option Json) → Finds self.now.header h → Finds self.now.object d
             → Finds result (packets.size_at h d) }
     {
-        let length = key_at(&key_at(&self.data, "raw"), "length");
+        let length = key_at(&key_at(&self.object, "raw"), "length");
         if says_at(&length) {
             return length;
         }
@@ -169,7 +169,7 @@ impl<'t, 'a> Packet<'t, 'a> {
         if says_at(&found) {
             return found;
         }
-        let found = key_at(&self.data, "packet_size");
+        let found = key_at(&self.object, "packet_size");
         if says_at(&found) { found } else { length }
     }
 }

@@ -14,27 +14,27 @@ use json::Element;
 const MAX_DELAY: u64 = 16_383_000_000;
 
 /// Whether the parameters are those of the peer.
-pub fn is_of_peer(data: &Option<Element<'_, '_>>) -> bool
-    ensures { (d : Option Json) → Finds data.now d → result ≡ parameters.is_of_peer d }
+pub fn is_of_peer(object: &Option<Element<'_, '_>>) -> bool
+    ensures { (d : Option Json) → Finds object.now d → result ≡ parameters.is_of_peer d }
 {
-    is_text(&owner_at(data), "remote")
+    is_text(&owner_at(object), "remote")
 }
 
 /// What is said of whose parameters they are.
-fn owner_at<'t, 'a>(data: &Option<Element<'t, 'a>>) -> Option<Element<'t, 'a>>
-    ensures { (d : Option Json) → Finds data.now d → Finds result (parameters.owner_at d) }
+fn owner_at<'t, 'a>(object: &Option<Element<'t, 'a>>) -> Option<Element<'t, 'a>>
+    ensures { (d : Option Json) → Finds object.now d → Finds result (parameters.owner_at d) }
 {
-    match key_at(data, "owner") {
+    match key_at(object, "owner") {
         Some(owner) => Some(owner),
-        None => key_at(data, "initiator"),
+        None => key_at(object, "initiator"),
     }
 }
 
 /// The nanoseconds of `max_ack_delay`, in a log whose durations have this unit.
-pub fn max_ack_delay(data: &Option<Element<'_, '_>>, unit: Unit) -> Result<Option<u64>, NoValue>
-    ensures { (d : Option Json) → Finds data.now d → result ≡ parameters.max_ack_delay unit d }
+pub fn max_ack_delay(object: &Option<Element<'_, '_>>, unit: Unit) -> Result<Option<u64>, NoValue>
+    ensures { (d : Option Json) → Finds object.now d → result ≡ parameters.max_ack_delay unit d }
 {
-    match duration_in(data, Key::MaxAckDelay, unit) {
+    match duration_in(object, Key::MaxAckDelay, unit) {
         Ok(Some(delay)) if MAX_DELAY < delay => Err(NoValue::OutOfRange(Key::MaxAckDelay)),
         other => other,
     }

@@ -7,7 +7,7 @@ ghost use Rattle.qa_qlog.specs.Records as records;
 use crate::fields::Fields;
 use crate::heads::Head;
 use crate::names::EventName;
-use crate::says::{is_given, is_object, says_at, text_at};
+use crate::says::{is_given, is_object, key_at, says_at, text_at};
 use crate::times::{NoTime, Unit, time};
 use json::Element;
 
@@ -44,6 +44,29 @@ impl Head {
             → Finds result (records.data_of self.now.fields j) }
     {
         object_only(self.fields.at_key(value, "data"))
+    }
+
+    /// The group of a record, by which a log tells connections apart: a number or a string, as it
+    /// is written. Another value is the empty text.
+    pub fn group_id<'a>(&self, value: &Element<'_, 'a>) -> Option<&'a str>
+        ensures { (j : Json) → BeginsWith value.now j
+            → option_map (λ s. s.now) result ≡ records.group_of self.now.fields j }
+    {
+        match self.fields.at_key(value, "group_id") {
+            Some(found) => Some(written(&found)),
+            None => None,
+        }
+    }
+}
+
+/// The path of an event in multipath QUIC, as the group of a record.
+pub fn path_id<'a>(object: &Option<Element<'_, 'a>>) -> Option<&'a str>
+    ensures { (d : Option Json) → Finds object.now d
+        → option_map (λ s. s.now) result ≡ records.path_of d }
+{
+    match key_at(object, "path_id") {
+        Some(found) => Some(written(&found)),
+        None => None,
     }
 }
 

@@ -10,10 +10,10 @@ use qa_base::Space;
 
 /// The packet number space whose keys they are; None for those of 0-RTT and 1-RTT, and if the
 /// record does not say it.
-pub fn key_space(data: &Option<Element<'_, '_>>) -> Option<Space>
-    ensures { (d : Option Json) → Finds data.now d → result ≡ secrets.key_space d }
+pub fn key_space(object: &Option<Element<'_, '_>>) -> Option<Space>
+    ensures { (d : Option Json) → Finds object.now d → result ≡ secrets.key_space d }
 {
-    match text_at(&key_at(data, "key_type")) {
+    match text_at(&key_at(object, "key_type")) {
         Some(name) => space_in(name.as_bytes()),
         None => None,
     }

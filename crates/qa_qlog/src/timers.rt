@@ -9,17 +9,17 @@ use json::Element;
 use qa_base::{Space, TimerKind};
 
 /// Whether the timer fired; it may also be set or cancelled.
-pub fn has_expired(data: &Option<Element<'_, '_>>) -> bool
-    ensures { (d : Option Json) → Finds data.now d → result ≡ timers.has_expired d }
+pub fn has_expired(object: &Option<Element<'_, '_>>) -> bool
+    ensures { (d : Option Json) → Finds object.now d → result ≡ timers.has_expired d }
 {
-    is_text(&key_at(data, "event_type"), "expired")
+    is_text(&key_at(object, "event_type"), "expired")
 }
 
 /// Which timer it is, if the record says it.
-pub fn timer_kind(data: &Option<Element<'_, '_>>) -> Option<TimerKind>
-    ensures { (d : Option Json) → Finds data.now d → result ≡ timers.kind d }
+pub fn timer_kind(object: &Option<Element<'_, '_>>) -> Option<TimerKind>
+    ensures { (d : Option Json) → Finds object.now d → result ≡ timers.kind d }
 {
-    match text_at(&key_at(data, "timer_type")) {
+    match text_at(&key_at(object, "timer_type")) {
         Some(name) => kind_named(name),
         None => None,
     }
@@ -39,10 +39,10 @@ fn kind_named(name: &str) -> Option<TimerKind>
 }
 
 /// The packet number space of the timer, if the record says it.
-pub fn timer_space(data: &Option<Element<'_, '_>>) -> Option<Space>
-    ensures { (d : Option Json) → Finds data.now d → result ≡ timers.space d }
+pub fn timer_space(object: &Option<Element<'_, '_>>) -> Option<Space>
+    ensures { (d : Option Json) → Finds object.now d → result ≡ timers.space d }
 {
-    match text_at(&key_at(data, "packet_number_space")) {
+    match text_at(&key_at(object, "packet_number_space")) {
         Some(name) => space_named(name),
         None => None,
     }

@@ -1,4 +1,5 @@
 //! Logs whose texts, lines, kinds, times, names, heads and records were read by hand.
+mod documents;
 mod frames;
 mod heads;
 mod kinds;

@@ -69,6 +69,11 @@ fn contents(rt: HostRuntime) {
     ] {
         assert!(rt; content_of(rt.alloc(), data) == Ok(expected), "{data}");
     }
+}
+
+/// Values that are no frames.
+#[test]
+fn no_frames(rt: HostRuntime) {
     for data in [
         "{\"frames\":1}",
         "{\"frames\":{\"a\":1}}",

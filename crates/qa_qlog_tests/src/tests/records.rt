@@ -1,6 +1,6 @@
 //! Heads of records in several drafts.
 use json::{Scratch, Tape};
-use qa_qlog::{EventHead, EventName, NoTime, head_of};
+use qa_qlog::{EventHead, EventName, NoTime, head_of, path_id};
 use std::alloc::Global;
 use std::test::Fail;
 
@@ -106,4 +106,30 @@ fn data(rt: HostRuntime) {
     assert!(rt; has_data(rt.alloc(), "{\"data\":{\"a\":null}}", "a"));
     assert!(rt; has_data(rt.alloc(), "[0,1,2,{\"b\":{}}]", "b"));
     assert!(rt; !has_data(rt.alloc(), "{\"data\":[\"a\"]}", "a"));
+}
+
+/// Whether a record in a log without fields is of this group and this path.
+fn is_of(alloc: Global, record: &str, group: Option<&str>, path: Option<&str>) -> bool {
+    let Ok(head) = head_of(alloc, b"{}") else {
+        return false;
+    };
+    let mut scratch = Scratch::new(alloc);
+    match Tape::parse(record, &mut scratch, Vec::new(alloc)) {
+        Ok(tape) => {
+            let value = tape.root();
+            head.group_id(&value) == group && path_id(&head.data(&value)) == path
+        }
+        Err(_) => false,
+    }
+}
+
+/// Groups and paths, which tell connections apart.
+#[test]
+fn connections(rt: HostRuntime) {
+    let both = "{\"group_id\":\"a1\",\"data\":{\"path_id\":2}}";
+    assert!(rt; is_of(rt.alloc(), both, Some("a1"), Some("2")));
+    let neither = "{\"data\":{}}";
+    assert!(rt; is_of(rt.alloc(), neither, None, None));
+    let other = "{\"group_id\":null,\"data\":{\"path_id\":[]}}";
+    assert!(rt; is_of(rt.alloc(), other, Some(""), Some("")));
 }
