@@ -89,16 +89,16 @@ pub struct LoggedPacket {
 }
 
 impl LoggedPacket {
-    /// The packet of which this is the data; None if it is of no space. Durations have this unit.
+    /// The packet of which this object is the data; None if it is of no space. Durations have this unit.
     pub fn of<'t, 'a>(
         alloc: Global,
-        data: Option<Element<'t, 'a>>,
+        object: Option<Element<'t, 'a>>,
         unit: Unit,
     ) -> Result<Option<LoggedPacket>, NoEvent>
-        ensures { (d : Option Json) → Finds data.entry d → IfOk result (GivesPacket unit d) }
+        ensures { (d : Option Json) → Finds object.entry d → IfOk result (GivesPacket unit d) }
     {
-        let is_probe = is_probe(&data);
-        let packet = Packet::of(data);
+        let is_probe = is_probe(&object);
+        let packet = Packet::of(object);
         let Some(space) = space_of(&packet) else {
             return Ok(None);
         };
@@ -119,7 +119,7 @@ impl LoggedPacket {
 
 /// The packet number space of a packet, if it has one.
 fn space_of(packet: &Packet<'_, '_>) -> Option<Space>
-    ensures { (h d : Option Json) → Finds packet.now.header h → Finds packet.now.data d
+    ensures { (h d : Option Json) → Finds packet.now.header h → Finds packet.now.object d
         → result ≡ packets.space_of h d }
 {
     match packet.packet_type() {
@@ -130,7 +130,7 @@ fn space_of(packet: &Packet<'_, '_>) -> Option<Space>
 
 /// What its frames make of a packet.
 fn content_of(packet: &Packet<'_, '_>) -> Result<Content, NoValue>
-    ensures { (d : Option Json) → Finds packet.now.data d → IfOk result (λ content.
+    ensures { (d : Option Json) → Finds packet.now.object d → IfOk result (λ content.
         (js : List Json) × (frames.frames d ≡ Ok js)
         × (content ≡ frames.content (map frames.type_of js))) }
 {
@@ -142,7 +142,7 @@ fn content_of(packet: &Packet<'_, '_>) -> Result<Content, NoValue>
 
 /// The ACK frames of a packet.
 fn acks_of(alloc: Global, packet: &Packet<'_, '_>, unit: Unit) -> Result<Vec<LoggedAck>, NoEvent>
-    ensures { (d : Option Json) → Finds packet.now.data d → IfOk result (λ acks.
+    ensures { (d : Option Json) → Finds packet.now.object d → IfOk result (λ acks.
         (js : List Json) × (frames.frames d ≡ Ok js) × AreAcksOf unit js acks.items) }
 {
     match packet.frames()? {
