@@ -190,7 +190,8 @@ class Event:
     @property
     def packet_type(self) -> str:
         """The type of the packet, however it is written."""
-        return plain(str(self.header.get("packet_type") or self.data.get("packet_type") or ""))
+        kind = self.header.get("packet_type") or self.data.get("packet_type")
+        return plain(str(kind or self.data.get("type") or ""))
 
     @property
     def _said_size(self) -> Any:
@@ -272,6 +273,8 @@ class Event:
             raise self.error("acked_ranges is no list")
         for pair in pairs:
             ends = pair if isinstance(pair, list) and pair else [pair]
+            if len(ends) > 2:
+                raise self.error(f"a range of {len(ends)} numbers")
             low, high = self.integer(ends[0], "a range"), self.integer(ends[-1], "a range")
             if low > high:
                 raise self.error(f"the range {low} to {high}")
@@ -328,7 +331,9 @@ class Event:
 
     def key_space(self) -> str | None:
         """The space of whose keys it speaks."""
-        kind = str(self.data.get("key_type", ""))
+        kind = self.data.get("key_type")
+        if not isinstance(kind, str):
+            return None
         return next((space for space in ("initial", "handshake") if space in kind), None)
 
     @property
@@ -361,6 +366,8 @@ def space_of_packet(kind: str) -> str | None:
 
 def as_number(value: Any) -> int | Decimal:
     """A number that a log may write as a string, if it is none of very many digits."""
+    if isinstance(value, bool):
+        raise TypeError("a truth value is no number")
     if isinstance(value, int):
         return value
     number = Decimal(value)

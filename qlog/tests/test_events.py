@@ -141,6 +141,13 @@ class Events(unittest.TestCase):
         end = converted([*first, *rest, closing], name="OpenSSL/3.6.5", role="client")
         self.assertIn("the trace begins after the Retry at line 4; packets before", end.errors)
 
+    def test_a_retry_whose_type_stands_beside_the_header(self) -> None:
+        retry = received(50, None, "retry")
+        retry["data"] = {"header": {}, "type": "retry", "frames": []}
+        first, rest = sent(0, 0, "initial"), [sent(50, 1, "initial"), received(90, [[1]], "initial")]
+        end = converted([first, retry, *rest], name="OpenSSL/3.6.5", role="client")
+        self.assertIn("the trace begins after the Retry at line 3; packets before", end.errors)
+
     def test_a_retry_that_is_not_logged_shows_by_where_initial_packets_go(self) -> None:
         first, second, third = (sent(it * 40, it, "initial") for it in range(3))
         for event, destination in ((first, "aa"), (second, "bb"), (third, "cc")):

@@ -61,6 +61,13 @@ class NoLogs(unittest.TestCase):
         self.refused(b"\n\r\r\n\x6c\x00M<+\x1a", "a capture of packets and no log")
         self.refused(converted(EVENTS).text, "this is already a trace, as qaudit reads it")
 
+    def test_values_that_are_taken_for_no_other(self) -> None:
+        three = sequence(header(), [*EVENTS[:1], received(20, [[0, 5, 9]])])
+        self.refused(three, "line 3: packet_received: a range of 3 numbers")
+        end = converted([*EVENTS[:1], received(20, [[0]], delay=True)])
+        self.assertEqual(end.status, 2)
+        self.assertIn("line 3: packet_received: ack_delay is no number", end.errors)
+
     def test_compressed_logs(self) -> None:
         log = sequence(header(), EVENTS).encode()
         wanted = End(log).text
