@@ -144,8 +144,8 @@ class Events(unittest.TestCase):
     def test_a_retry_whose_type_stands_beside_the_header(self) -> None:
         retry = received(50, None, "retry")
         retry["data"] = {"header": {}, "type": "retry", "frames": []}
-        first, rest = sent(0, 0, "initial"), [sent(50, 1, "initial"), received(90, [[1]], "initial")]
-        end = converted([first, retry, *rest], name="OpenSSL/3.6.5", role="client")
+        rest = [sent(50, 1, "initial"), received(90, [[1]], "initial")]
+        end = converted([sent(0, 0, "initial"), retry, *rest], name="OpenSSL/3.6.5", role="client")
         self.assertIn("the trace begins after the Retry at line 3; packets before", end.errors)
 
     def test_a_retry_that_is_not_logged_shows_by_where_initial_packets_go(self) -> None:

@@ -27,6 +27,7 @@ WORDS: dict[object, str] = {
     Limited.BY_WINDOW: "Limited::ByWindow",
     Limited.NEVER: "Limited::Never",
 }
+UNITS = {"us": "Microseconds", "ns": "Nanoseconds"}
 # Keys whose values may be absent there.
 OPTIONAL = {"initial_rtt", "logs_timers", "packets_between_pings", "unit"}
 
@@ -54,7 +55,7 @@ def written(name: str, value: object) -> str:
     if value is None:
         return "None"
     if name == "unit":
-        return {"us": "Some(TimeUnit::Microseconds)", "ns": "Some(TimeUnit::Nanoseconds)"}[str(value)]
+        return f"Some(TimeUnit::{UNITS[str(value)]})"
     if value in WORDS:
         return WORDS[value]
     text = f'"{value}"'

@@ -31,7 +31,6 @@ class Pages(unittest.TestCase):
                 names = " ".join(dialect.name for dialect in DIALECTS)
                 self.assertRegex(text, rf"[(']{names}[)']", path.name)
 
-
     def test_what_is_set_for_each_kind_of_log(self) -> None:
         words = [sys.executable, str(TOP / "qlog" / "dialects")]
         table = subprocess.run(words, capture_output=True, text=True, check=True).stdout
