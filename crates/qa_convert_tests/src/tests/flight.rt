@@ -1,10 +1,16 @@
 //! Packets that enter the flight and leave it.
+ghost use Rattle.std.specs.Prelude.{◌≡◌, ◌≤◌};
+ghost use Rattle.qa_base.specs.values.Limits.{max_packet_size};
+
 use qa_base::{PacketNumber, Span};
 use qa_convert::{Flight, Flying};
 use std::alloc::{AllocError, Global};
 
 /// A packet of this size.
-fn of_size(size: u64) -> Flying {
+fn of_size(size: u64) -> Flying
+    requires { size ≤ max_packet_size }
+    ensures { result.size ≡ size }
+{
     Flying {
         size,
         time: 10 * size,

@@ -176,7 +176,7 @@ fn guesses_of_lines(rt: HostRuntime) {
 fn lost(alloc: Global, count: u64, time: u64) -> Option<Line> {
     let mut ranges = Spans::new(alloc);
     for n in 0..count {
-        let number = PacketNumber::new(100_000_000 + 2 * n)?;
+        let number = PacketNumber::new(n.saturating_mul(2).saturating_add(100_000_000))?;
         ranges.push(Span::new(number, number)?).ok()?;
     }
     Some(Line::Event(Event::Lost {

@@ -73,17 +73,22 @@ impl History {
     }
 }
 
-/// A packet of 1,200 bytes by leave of the window, if it is in flight.
-fn packet(time: u64, number: u64, eliciting: bool, in_flight: bool) -> Option<Event> {
+/// A packet by leave of the window, if it is in flight.
+fn sized(size: u64, time: u64, number: u64, eliciting: bool, in_flight: bool) -> Option<Event> {
     Some(Event::Sent(SentPacket {
         time: Ticks::new(time)?,
         space: Space::App,
         number: PacketNumber::new(number)?,
-        size: 1200,
+        size,
         eliciting,
         in_flight,
         permission: Permission::Window,
     }))
+}
+
+/// The same of 1,200 bytes.
+fn packet(time: u64, number: u64, eliciting: bool, in_flight: bool) -> Option<Event> {
+    sized(1200, time, number, eliciting, in_flight)
 }
 
 /// An ack-eliciting packet.
@@ -93,13 +98,7 @@ fn sent(time: u64, number: u64) -> Option<Event> {
 
 /// An ack-eliciting packet of which four fit into the least window.
 fn small(time: u64, number: u64) -> Option<Event> {
-    match sent(time, number)? {
-        Event::Sent(packet) => Some(Event::Sent(SentPacket {
-            size: 600,
-            ..packet
-        })),
-        _ => None,
-    }
+    sized(600, time, number, true, true)
 }
 
 /// Has the ledger admit an event, and returns how much it keeps then.
