@@ -89,7 +89,8 @@ pub struct LoggedPacket {
 }
 
 impl LoggedPacket {
-    /// The packet of which this object is the data; None if it is of no space. Durations have this unit.
+    /// The packet of which this object is the data; None if it is of no space. Durations have this
+    /// unit.
     pub fn of<'t, 'a>(
         alloc: Global,
         object: Option<Element<'t, 'a>>,

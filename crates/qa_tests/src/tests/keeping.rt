@@ -1,5 +1,7 @@
 //! How much the ledger that passes once over events keeps, worked out by hand, over histories too
 //! that are too long for a trace.
+ghost use Rattle.std.specs.Prelude.{◌<◌};
+
 use crate::tests::events::{ack, lost};
 use qa_base::limits::MAX_LINES;
 use qa_base::{Event, Header, PacketNumber, Permission, Role, SentPacket, Space, Ticks};
@@ -173,7 +175,9 @@ fn kept_after_a_stray(history: &mut History, alloc: Global) -> [Option<u128>; 2]
 
 /// Three packets are sent, and 20 ms later a fourth, whose acknowledgment comes after 100 ms. That
 /// is the round-trip time, and 9/8 of it have passed since the three were sent: they are lost.
-fn take_lossy_round(history: &mut History, alloc: Global, round: u64) {
+fn take_lossy_round(history: &mut History, alloc: Global, round: u64)
+    requires { round < 500 }
+{
     let time = 200_000 * round;
     let first = 4 * round + 1;
     history.take(small(time, first));
