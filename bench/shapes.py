@@ -165,7 +165,7 @@ def all_lost(log: Log) -> Iterator[Round]:
     return last_of(log, 16)
 
 
-def lost_behind(log: Log) -> Iterator[Round]:
+def lost_after(log: Log) -> Iterator[Round]:
     """The same behind a packet that is not in flight and never acknowledged."""
     yield [log.sent(FIRST_NUMBER - 1, template=SENT_ALONE)]
     yield from all_lost(log)
@@ -396,7 +396,7 @@ SHAPES = (
     MANY_RANGES,
     Shape("skipped", skipped),
     Shape("lost", lost),
-    Shape("lost-behind", lost_behind),
+    Shape("lost-after", lost_after),
     Shape("three-spaces", three_spaces),
 )
 # Which are compared with other readers.
