@@ -99,10 +99,12 @@ class ContractsTest(unittest.TestCase):
         clauses: tuple[str, ...] = (ORDER, IS_FAR),
         edits: list[str] | None = None,
         gate: tuple[str, ...] = ("not_taken",),
+        tests: tuple[dict[str, str], ...] = (),
     ) -> None:
         """Writes a list of one function."""
         listed = {"file": FILE, "function": function, "clauses": clauses, "edits": edits or []}
-        self.write(IN_CONTRACTS, json.dumps({"gate": gate, "functions": [listed]}))
+        named = {"gate": gate, "tests": tests, "functions": [listed]}
+        self.write(IN_CONTRACTS, json.dumps(named))
 
     def write_reasons(self, reasons: dict[str, str]) -> None:
         """Writes a list of reasons."""
@@ -207,7 +209,7 @@ class ContractsTest(unittest.TestCase):
         listed: dict[str, Any] = {"file": FILE, "function": "is_far", "edits": []}
         listed["clauses"] = [ORDER, IS_FAR]
         functions = [listed | {"edits": ["qa/strict"]}, listed]
-        self.write(IN_CONTRACTS, json.dumps({"gate": [], "functions": functions}))
+        self.write(IN_CONTRACTS, json.dumps({"gate": [], "tests": [], "functions": functions}))
         self.assert_failures(*[f"{FILE}: is_far: is in {IN_CONTRACTS} twice"] * 2)
 
     def test_contract_for_an_edit_of_another_function(self) -> None:
@@ -276,6 +278,25 @@ class ContractsTest(unittest.TestCase):
     def test_edit_that_the_gate_has_too(self) -> None:
         self.write("crates/qa/must-fail/dropped.edit", DROPPED)
         self.assert_failures("edits/qa/dropped: the gate has an edit of this name")
+
+    def write_tested(self, edit: str, file: str, test: str) -> None:
+        """Writes a list with an edit of which this test fails."""
+        tested = {"edit": edit, "file": file, "test": test}
+        self.write_contracts(edits=["qa/strict"], tests=(tested,))
+
+    def test_edits_of_which_a_test_fails(self) -> None:
+        self.write("crates/tests/src/far.rt", "#[test]\nfn far(rt: HostRuntime) {}\nfn near() {}\n")
+        self.write("crates/program/stdin", "far\n")
+        self.write_tested("qa/strict", "tests/src/far.rt", "far")
+        self.lines(0)
+        self.write_tested("qa/strict", "program/stdin", "")
+        self.lines(0)
+        self.write_tested("qa/strict", "tests/src/far.rt", "near")
+        self.assert_failures("qa/strict: crates/tests/src/far.rt has no test `near`")
+        self.write_tested("qa/strict", "program/stdout", "")
+        self.assert_failures("qa/strict: crates/program/stdout is not there")
+        self.write_tested("qa/not_taken", "program/stdin", "")
+        self.assert_failures("qa/not_taken: there is no such edit in edits/")
 
     def test_named_wrong_body_that_left_the_gate(self) -> None:
         self.write_contracts(edits=["qa/strict"], gate=("not_taken", "strict"))
