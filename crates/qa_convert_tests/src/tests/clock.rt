@@ -17,49 +17,57 @@ fn shown(form: TimeForm, times: [i64; 4]) -> [u64; 4] {
     ]
 }
 
+/// Whether it has these.
+fn is_shown(form: TimeForm, times: [i64; 4], expected: [u64; 4]) -> bool {
+    shown(form, times) == expected
+}
+
 /// Absolute times count from the first of them, also if that is small.
 #[test]
 fn absolute(rt: HostRuntime) {
     let times = [EPOCH, EPOCH + 5, EPOCH + 3, EPOCH + 9];
-    assert_eq!(rt; shown(TimeForm::Absolute, times), [0, 5, 3, 9]);
-    assert_eq!(rt; shown(TimeForm::Absolute, [40, 45, 30, 49]), [0, 5, 0, 9]);
+    assert!(rt; is_shown(TimeForm::Absolute, times, [0, 5, 3, 9]));
+    assert!(rt; is_shown(TimeForm::Absolute, [40, 45, 30, 49], [0, 5, 0, 9]));
 }
 
 /// Relative times are as they are, unless they count from an epoch.
 #[test]
 fn relative(rt: HostRuntime) {
-    assert_eq!(rt;
-        shown(TimeForm::Relative, [40, 45, -3, 49]),
-        [40, 45, 0, 49]
-    );
+    assert!(rt; is_shown(TimeForm::Relative, [40, 45, -3, 49], [40, 45, 0, 49]));
     let times = [EPOCH, EPOCH + 5, EPOCH + 3, EPOCH + 9];
-    assert_eq!(rt; shown(TimeForm::Relative, times), [0, 5, 3, 9]);
+    assert!(rt; is_shown(TimeForm::Relative, times, [0, 5, 3, 9]));
 }
 
 /// A delta counts from the record before. The first may be the time of day.
 #[test]
 fn delta(rt: HostRuntime) {
-    assert_eq!(rt; shown(TimeForm::Delta, [40, 5, 0, 9]), [40, 45, 45, 54]);
-    assert_eq!(rt; shown(TimeForm::Delta, [EPOCH, 5, 0, 9]), [0, 5, 5, 14]);
+    assert!(rt; is_shown(TimeForm::Delta, [40, 5, 0, 9], [40, 45, 45, 54]));
+    assert!(rt; is_shown(TimeForm::Delta, [EPOCH, 5, 0, 9], [0, 5, 5, 14]));
     // A time before the start is shown as that, and the next counts from it as it is.
-    assert_eq!(rt; shown(TimeForm::Delta, [4, -10, 3, 9]), [4, 0, 0, 6]);
+    assert!(rt; is_shown(TimeForm::Delta, [4, -10, 3, 9], [4, 0, 0, 6]));
+}
+
+/// Ten years in nanoseconds.
+const TEN_YEARS: i64 = 315_360_000_000_000_000;
+
+/// Whether ten years are the least that is taken for an epoch.
+fn are_ten_years_an_epoch() -> bool {
+    let least = [TEN_YEARS, TEN_YEARS + 1, TEN_YEARS, TEN_YEARS];
+    let below = [TEN_YEARS - 1, TEN_YEARS, 0, 1];
+    let as_it_is = [315_359_999_999_999_999, 315_360_000_000_000_000, 0, 1];
+    is_shown(TimeForm::Relative, least, [0, 1, 0, 0])
+        && is_shown(TimeForm::Relative, below, as_it_is)
+}
+
+/// Whether times stay at the last of 64 bits.
+fn is_the_last_time_kept() -> bool {
+    let (last, end) = (i64::MAX, 9_223_372_036_854_775_807);
+    is_shown(TimeForm::Delta, [0, last, last, last], [0, end, end, end])
 }
 
 /// Ten years are the least that is taken for an epoch. No time is past the last of 64 bits.
 #[test]
 fn edges(rt: HostRuntime) {
-    let years = 315_360_000_000_000_000;
-    let least = [years, years + 1, years, years];
-    assert_eq!(rt; shown(TimeForm::Relative, least), [0, 1, 0, 0]);
-    let below = [years - 1, years, 0, 1];
-    assert_eq!(rt;
-        shown(TimeForm::Relative, below),
-        [315_359_999_999_999_999, 315_360_000_000_000_000, 0, 1]
-    );
-    let last = i64::MAX;
-    let end = 9_223_372_036_854_775_807;
-    assert_eq!(rt;
-        shown(TimeForm::Delta, [0, last, last, last]),
-        [0, end, end, end]
-    );
+    assert!(rt; are_ten_years_an_epoch());
+    assert!(rt; is_the_last_time_kept());
 }

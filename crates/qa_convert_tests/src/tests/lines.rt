@@ -79,18 +79,6 @@ fn noted_text(
     Ok(out)
 }
 
-/// A line that has no own keys is as `write_line` has it.
-#[test]
-fn no_own_keys(rt: HostRuntime) {
-    let text = match sent() {
-        Some(line) => plain_text(rt.alloc(), &line),
-        None => Ok(Vec::new(rt.alloc())),
-    };
-    let expected: &[u8] =
-        b"{\"eliciting\":true,\"event\":\"sent\",\"in_flight\":true,\"leave\":\"window\",\"number\":7,\"size\":1200,\"space\":\"app\",\"time\":3}\n";
-    assert!(rt; is_text(&text, expected));
-}
-
 /// Whether these bytes were written.
 fn is_text(text: &Result<Vec<u8>, NotedFault>, expected: &[u8]) -> bool {
     match text {
@@ -99,53 +87,77 @@ fn is_text(text: &Result<Vec<u8>, NotedFault>, expected: &[u8]) -> bool {
     }
 }
 
+/// Whether the text of this line with no own keys is so.
+fn is_plain(alloc: Global, line: Option<Line>, expected: &[u8]) -> bool {
+    match &line {
+        Some(line) => is_text(&plain_text(alloc, line), expected),
+        None => false,
+    }
+}
+
+/// A line that has no own keys is as `write_line` has it.
+#[test]
+fn no_own_keys(rt: HostRuntime) {
+    let expected: &[u8] =
+        b"{\"eliciting\":true,\"event\":\"sent\",\"in_flight\":true,\"leave\":\"window\",\"number\":7,\"size\":1200,\"space\":\"app\",\"time\":3}\n";
+    assert!(rt; is_plain(rt.alloc(), sent(), expected));
+}
+
+/// Whether the text of this line is so that is from there, and of which these guesses were made.
+fn is_noted(
+    alloc: Global,
+    line: Option<Line>,
+    stretch: Stretch,
+    guesses: &[Guess],
+    expected: &[u8],
+) -> bool {
+    match &line {
+        Some(line) => is_text(&noted_text(alloc, line, stretch, guesses), expected),
+        None => false,
+    }
+}
+
 /// A line of one record.
 #[test]
 fn one_record(rt: HostRuntime) {
-    let text = match sent() {
-        Some(line) => noted_text(rt.alloc(), &line, at(5, 5, false), &[]),
-        None => Ok(Vec::new(rt.alloc())),
-    };
     let expected: &[u8] =
         b"{\"eliciting\":true,\"event\":\"sent\",\"in_flight\":true,\"leave\":\"window\",\"number\":7,\"size\":1200,\"space\":\"app\",\"time\":3,\"x_place\":\"line 5\"}\n";
-    assert!(rt; is_text(&text, expected));
+    assert!(rt; is_noted(rt.alloc(), sent(), at(5, 5, false), &[], expected));
 }
 
 /// A line of several records, with two guesses.
 #[test]
 fn several_records(rt: HostRuntime) {
     let guesses = [Guess::LossTimer, Guess::Moment];
-    let text = match timer() {
-        Some(line) => noted_text(rt.alloc(), &line, at(5, 19, true), &guesses),
-        None => Ok(Vec::new(rt.alloc())),
-    };
     let expected: &[u8] =
         b"{\"event\":\"timer\",\"kind\":\"pto\",\"space\":\"app\",\"time\":4,\"x_guess\":[\"a loss timer: no acknowledgment shows the losses\",\"time: part of a millisecond earlier, so that a packet is not lost yet\"],\"x_place\":\"guessed at line 5 to line 19\"}\n";
-    assert!(rt; is_text(&text, expected));
+    assert!(rt; is_noted(rt.alloc(), timer(), at(5, 19, true), &guesses, expected));
 }
 
-/// The own keys of a line in which their order is that of their names.
+/// Where a record stands that begins at this byte.
+fn at_byte(byte: u64) -> Stretch {
+    Stretch {
+        first: Place::Byte(byte),
+        last: Place::Byte(byte),
+        is_guess: false,
+    }
+}
+
+/// The text of a line with own keys that were put in another order than that of their names.
 fn own_text(alloc: Global) -> Result<Vec<u8>, NotedFault> {
     let mut own = OwnKeys::new(alloc);
     put_text(&mut own, alloc, OwnKey::Space, "app")?;
     put_text(&mut own, alloc, OwnKey::Dialect, "quic-go")?;
-    put_stretch(
-        &mut own,
-        alloc,
-        Stretch {
-            first: Place::Byte(12),
-            last: Place::Byte(12),
-            is_guess: false,
-        },
-    )?;
+    put_stretch(&mut own, alloc, at_byte(12))?;
     let mut out = Vec::new(alloc);
-    push_noted(
-        alloc,
-        &Line::Event(Event::Keys { time: Ticks::of(9) }),
-        own,
-        &mut out,
-    )?;
+    let line = Line::Event(Event::Keys { time: Ticks::of(9) });
+    push_noted(alloc, &line, own, &mut out)?;
     Ok(out)
+}
+
+/// Whether that text is so.
+fn is_ordered(alloc: Global, expected: &[u8]) -> bool {
+    is_text(&own_text(alloc), expected)
 }
 
 /// Own keys stand in the order of their names.
@@ -153,14 +165,13 @@ fn own_text(alloc: Global) -> Result<Vec<u8>, NotedFault> {
 fn own_keys_rise(rt: HostRuntime) {
     let expected: &[u8] =
         b"{\"event\":\"keys\",\"time\":9,\"x_dialect\":\"quic-go\",\"x_place\":\"byte 12\",\"x_space\":\"app\"}\n";
-    assert!(rt; is_text(&own_text(rt.alloc()), expected));
+    assert!(rt; is_ordered(rt.alloc(), expected));
 }
 
 /// A blank line has no keys, so it has no own ones.
 #[test]
 fn blank_line(rt: HostRuntime) {
-    let text = noted_text(rt.alloc(), &Line::Blank, at(1, 1, false), &[]);
-    assert!(rt; is_text(&text, b"\n"));
+    assert!(rt; is_noted(rt.alloc(), Some(Line::Blank), at(1, 1, false), &[], b"\n"));
 }
 
 /// Which guesses are of whole lines.
@@ -202,21 +213,34 @@ fn length_at(alloc: Global, count: u64) -> Result<usize, NotedFault> {
     }
 }
 
+/// Whether the line with so many ranges at this time is so long, or too long.
+fn is_of_length(alloc: Global, count: u64, time: u64, expected: Option<usize>) -> bool {
+    match length_of(alloc, count, time) {
+        Ok(length) => Some(length) == expected,
+        Err(fault) => fault == NotedFault::TooLong && expected.is_none(),
+    }
+}
+
+/// The same of a line that says where it is from.
+fn is_of_length_there(alloc: Global, count: u64, expected: Option<usize>) -> bool {
+    match length_at(alloc, count) {
+        Ok(length) => Some(length) == expected,
+        Err(fault) => fault == NotedFault::TooLong && expected.is_none(),
+    }
+}
+
 /// A range takes 22 bytes with its comma, of which the last has none, and the rest of the line 50
 /// and the digits of its time. With 2,976 ranges and 15 digits that is 65,536.
 #[test]
 fn longest_line(rt: HostRuntime) {
     let time = 100_000_000_000_000;
-    assert_eq!(rt; length_of(rt.alloc(), 2_976, time), Ok(65_537));
-    assert_eq!(rt;
-        length_of(rt.alloc(), 2_976, 10 * time),
-        Err(NotedFault::TooLong)
-    );
+    assert!(rt; is_of_length(rt.alloc(), 2_976, time, Some(65_537)));
+    assert!(rt; is_of_length(rt.alloc(), 2_976, 10 * time, None));
 }
 
 /// Where a line is from takes 19 bytes here.
 #[test]
 fn longest_line_with_a_place(rt: HostRuntime) {
-    assert_eq!(rt; length_at(rt.alloc(), 2_975), Ok(65_520));
-    assert_eq!(rt; length_at(rt.alloc(), 2_976), Err(NotedFault::TooLong));
+    assert!(rt; is_of_length_there(rt.alloc(), 2_975, Some(65_520)));
+    assert!(rt; is_of_length_there(rt.alloc(), 2_976, None));
 }

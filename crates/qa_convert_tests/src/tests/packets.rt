@@ -1,7 +1,7 @@
 //! What is kept of packets.
 use json::{Scratch, Tape};
-use qa_base::{Space, Span};
-use qa_convert::{LoggedPacket, NoEvent};
+use qa_base::Space;
+use qa_convert::{LoggedAck, LoggedPacket, NoEvent};
 use qa_qlog::{Key, NoValue, Unit};
 use std::alloc::Global;
 
@@ -33,31 +33,55 @@ fn is_kept(alloc: Global, text: &str, expected: (Space, u64, Option<u64>, [bool;
     }
 }
 
+/// Whether the packet of application data that is logged so in one draft is kept as it is.
+fn is_data_kept(alloc: Global) -> bool {
+    let data =
+        "{\"header\":{\"packet_type\":\"1RTT\",\"packet_number\":7},\"raw\":{\"length\":1252},\"frames\":[{\"frame_type\":\"stream\"}],\"trigger\":\"pto_probe\"}";
+    is_kept(alloc, data, (Space::App, 7, Some(1252), [true, true, true]))
+}
+
+/// Whether the Initial packet is that is logged so in another.
+fn is_initial_kept(alloc: Global) -> bool {
+    let data =
+        "{\"packet_type\":\"initial\",\"header\":{\"packet_number\":\"2\",\"packet_size\":1200},\"frames\":[{\"frame_type\":\"ack\",\"acked_ranges\":[[0,1]]},{\"frame_type\":\"padding\"}]}";
+    is_kept(
+        alloc,
+        data,
+        (Space::Initial, 2, Some(1200), [false, true, false]),
+    )
+}
+
 /// Packets that are sent, in two drafts.
 #[test]
 fn sent(rt: HostRuntime) {
-    let data =
-        "{\"header\":{\"packet_type\":\"1RTT\",\"packet_number\":7},\"raw\":{\"length\":1252},\"frames\":[{\"frame_type\":\"stream\"}],\"trigger\":\"pto_probe\"}";
-    let expected = (Space::App, 7, Some(1252), [true, true, true]);
-    assert!(rt; is_kept(rt.alloc(), data, expected));
-    let data =
-        "{\"packet_type\":\"initial\",\"header\":{\"packet_number\":\"2\",\"packet_size\":1200},\"frames\":[{\"frame_type\":\"ack\",\"acked_ranges\":[[0,1]]},{\"frame_type\":\"padding\"}]}";
-    let expected = (Space::Initial, 2, Some(1200), [false, true, false]);
-    assert!(rt; is_kept(rt.alloc(), data, expected));
+    assert!(rt; is_data_kept(rt.alloc()));
+    assert!(rt; is_initial_kept(rt.alloc()));
 }
 
-/// The first range, the delay and the marks of the second ACK frame of a packet, and how many ACK
-/// frames it has.
-fn second_ack(alloc: Global, text: &str) -> Option<(usize, Span, u64, bool)> {
-    match packet_of(alloc, text) {
-        Ok(Some(packet)) => match packet.acks.as_slice() {
-            [_, ack, ..] => match ack.ranges.as_slice() {
-                [range, ..] => Some((packet.acks.len(), *range, ack.delay, ack.has_marks)),
-                [] => None,
-            },
-            _ => None,
-        },
+/// The first range, the delay and the marks of an ACK frame.
+fn said_of_ack(ack: &LoggedAck) -> Option<([u64; 2], u64, bool)> {
+    match ack.ranges.as_slice() {
+        [range, ..] => {
+            let ends = [range.lo().get(), range.hi().get()];
+            Some((ends, ack.delay, ack.has_marks))
+        }
+        [] => None,
+    }
+}
+
+/// How many ACK frames a packet has, and what the second says.
+fn said_of_second(packet: &LoggedPacket) -> Option<(usize, ([u64; 2], u64, bool))> {
+    match packet.acks.as_slice() {
+        [_, ack, ..] => Some((packet.acks.len(), said_of_ack(ack)?)),
         _ => None,
+    }
+}
+
+/// Whether the second of a packet's two ACK frames says so.
+fn has_second(alloc: Global, text: &str, said: ([u64; 2], u64, bool)) -> bool {
+    match packet_of(alloc, text) {
+        Ok(Some(packet)) => said_of_second(&packet) == Some((2, said)),
+        _ => false,
     }
 }
 
@@ -66,48 +90,48 @@ fn second_ack(alloc: Global, text: &str) -> Option<(usize, Span, u64, bool)> {
 fn acknowledgments(rt: HostRuntime) {
     let data =
         "{\"header\":{\"packet_type\":\"handshake\",\"packet_number\":0},\"frames\":[{\"frame_type\":\"ack\",\"acked_ranges\":[]},{\"frame_type\":\"crypto\"},{\"frame_type\":\"ack\",\"ack_delay\":1.25,\"acked_ranges\":[[4,6],[1]],\"ce\":2}]}";
-    let found = second_ack(rt.alloc(), data);
-    assert!(rt; found.is_some());
-    if let Some((count, range, delay, has_marks)) = found {
-        assert_eq!(rt; count, 2);
-        assert_eq!(rt; range.lo().get(), 4);
-        assert_eq!(rt; range.hi().get(), 6);
-        assert_eq!(rt; delay, 1_250_000);
-        assert!(rt; has_marks);
+    assert!(rt; has_second(rt.alloc(), data, ([4, 6], 1_250_000, true)));
+}
+
+/// Whether no packet is kept, and nothing is wrong.
+fn is_passed_over(alloc: Global, text: &str) -> bool {
+    match packet_of(alloc, text) {
+        Ok(None) => true,
+        _ => false,
     }
 }
 
-/// Why a packet is not kept.
-fn fault_of(alloc: Global, text: &str) -> Option<NoEvent> {
+/// Whether a packet is not kept for this.
+fn is_refused(alloc: Global, text: &str, expected: NoValue) -> bool {
     match packet_of(alloc, text) {
-        Ok(_) => None,
-        Err(fault) => Some(fault),
+        Ok(_) => false,
+        Err(fault) => fault == NoEvent::Unread(expected),
     }
+}
+
+/// Whether a Retry packet is passed over.
+fn is_retry_passed_over(alloc: Global) -> bool {
+    let data = "{\"header\":{\"packet_type\":\"retry\",\"packet_number\":-1}}";
+    is_passed_over(alloc, data)
+}
+
+/// Whether an Initial packet without a number is refused.
+fn is_number_missed(alloc: Global) -> bool {
+    let data = "{\"header\":{\"packet_type\":\"initial\"}}";
+    is_refused(alloc, data, NoValue::Missing(Key::PacketNumber))
+}
+
+/// Whether an Initial packet is refused whose range falls.
+fn is_range_refused(alloc: Global) -> bool {
+    let data =
+        "{\"header\":{\"packet_type\":\"initial\",\"packet_number\":1},\"frames\":[{\"frame_type\":\"ack\",\"acked_ranges\":[[5,4]]}]}";
+    is_refused(alloc, data, NoValue::OutOfRange(Key::AckedRanges))
 }
 
 /// Packets without a space are not kept, whatever else they say; others have to have a number.
 #[test]
 fn not_kept(rt: HostRuntime) {
-    let retry = packet_of(
-        rt.alloc(),
-        "{\"header\":{\"packet_type\":\"retry\",\"packet_number\":-1}}",
-    );
-    assert!(rt;
-        match retry {
-            Ok(None) => true,
-            _ => false
-        }
-    );
-    let fault = fault_of(rt.alloc(), "{\"header\":{\"packet_type\":\"initial\"}}");
-    assert_eq!(rt;
-        fault,
-        Some(NoEvent::Unread(NoValue::Missing(Key::PacketNumber)))
-    );
-    let data =
-        "{\"header\":{\"packet_type\":\"initial\",\"packet_number\":1},\"frames\":[{\"frame_type\":\"ack\",\"acked_ranges\":[[5,4]]}]}";
-    let fault = fault_of(rt.alloc(), data);
-    assert_eq!(rt;
-        fault,
-        Some(NoEvent::Unread(NoValue::OutOfRange(Key::AckedRanges)))
-    );
+    assert!(rt; is_retry_passed_over(rt.alloc()));
+    assert!(rt; is_number_missed(rt.alloc()));
+    assert!(rt; is_range_refused(rt.alloc()));
 }

@@ -1,7 +1,7 @@
 //! An audit of bytes that are handed in, piece by piece.
 use crate::tests::events::span;
 use qa_base::{Header, Role, Totals};
-use qa_check::{AuditFault, Auditor, Fault, Line, Progress, Verdict, verdict_line};
+use qa_check::{AuditFault, Auditor, Fault, Judge, Line, Progress, Verdict, verdict_line};
 use qa_embed::{Phase, Session};
 use qa_sender::Running;
 use std::alloc::Global;
@@ -15,8 +15,8 @@ const REST: &str =
     "\"space\":\"app\",\"number\":0,\"size\":1200,\"eliciting\":true,\"in_flight\":true}\n";
 
 /// What an auditor answers to a trace in two pieces, to its end, and to a piece behind it.
-fn audit_in_pieces(
-    auditor: &mut Auditor<Running>,
+fn audit_in_pieces<J: Judge + Drop>(
+    auditor: &mut Auditor<J>,
 ) -> (
     [Result<Progress, AuditFault>; 3],
     Result<Verdict, AuditFault>,
@@ -44,7 +44,7 @@ fn accepted() -> Verdict {
 }
 
 /// Whether nothing is fixed before the end of the trace, and nothing is taken behind it.
-fn is_fixed_at_its_end(auditor: &mut Auditor<Running>) -> bool {
+fn is_fixed_at_its_end<J: Judge + Drop>(auditor: &mut Auditor<J>) -> bool {
     let verdict = accepted();
     let (open, fixed) = (Ok(Progress::Open), Ok(Progress::Fixed(verdict)));
     audit_in_pieces(auditor) == ([open, open, fixed], Ok(verdict))
@@ -52,8 +52,8 @@ fn is_fixed_at_its_end(auditor: &mut Auditor<Running>) -> bool {
 
 /// Hands in a header and the beginning of a line: what is answered to each, how far the auditor is
 /// then, and whether it is inside a line.
-fn begin_by_a_header(
-    auditor: &mut Auditor<Running>,
+fn begin_by_a_header<J: Judge + Drop>(
+    auditor: &mut Auditor<J>,
     header: Header,
 ) -> Option<([Result<Progress, AuditFault>; 3], bool)> {
     if !auditor.is_between_lines() {
@@ -68,7 +68,7 @@ fn begin_by_a_header(
 }
 
 /// Whether the report says that the second line is no JSON.
-fn is_unreadable(auditor: &mut Auditor<Running>, alloc: Global) -> bool {
+fn is_unreadable<J: Judge + Drop>(auditor: &mut Auditor<J>, alloc: Global) -> bool {
     let Ok(verdict) = auditor.finish() else {
         return false;
     };
@@ -79,16 +79,20 @@ fn is_unreadable(auditor: &mut Auditor<Running>, alloc: Global) -> bool {
 }
 
 /// Whether the audit is open after each of these, and the report is that of the line behind them.
-fn takes_a_header(auditor: &mut Auditor<Running>, alloc: Global, header: Header) -> bool {
+fn takes_a_header<J: Judge + Drop>(
+    auditor: &mut Auditor<J>,
+    alloc: Global,
+    header: Header,
+) -> bool {
     let open = Ok(Progress::Open);
     begin_by_a_header(auditor, header) == Some(([open, open, open], true))
         && is_unreadable(auditor, alloc)
 }
 
 /// Whether a new auditor does so, or so, by whether it is handed a header. Only this function holds
-/// one, since it takes long to prove that it is dropped.
-fn audits(alloc: Global, header: Option<Header>) -> bool {
-    let mut auditor = Auditor::<Running>::new(alloc);
+/// one, for any judge: of a certain one it takes long to prove that it is dropped.
+fn audits<J: Judge + Drop>(alloc: Global, header: Option<Header>) -> bool {
+    let mut auditor = Auditor::<J>::new(alloc);
     match header {
         Some(header) => takes_a_header(&mut auditor, alloc, header),
         None => is_fixed_at_its_end(&mut auditor),
@@ -98,7 +102,7 @@ fn audits(alloc: Global, header: Option<Header>) -> bool {
 /// A trace comes in two pieces, cut inside a line.
 #[test]
 fn a_trace_comes_in_two_pieces(rt: HostRuntime) {
-    assert!(rt; audits(rt.alloc(), None));
+    assert!(rt; audits::<Running>(rt.alloc(), None));
 }
 
 /// A client's header.
@@ -109,7 +113,7 @@ fn client() -> Option<Header> {
 /// Whether a new auditor takes a client's header.
 fn takes_a_new_header(alloc: Global) -> bool {
     match client() {
-        Some(header) => audits(alloc, Some(header)),
+        Some(header) => audits::<Running>(alloc, Some(header)),
         None => false,
     }
 }
@@ -190,11 +194,22 @@ fn does(session: &mut Session, alloc: Global, header: Header, task: Task) -> boo
     }
 }
 
-/// The same of a session that is its own. Only this function holds one, since it takes long to
-/// prove that it is dropped.
-fn does_alone(session: Session, alloc: Global, header: Header, task: Task) -> bool {
-    let mut session = session;
-    does(&mut session, alloc, header, task)
+/// What can be asked whether it does a task.
+trait Asked {
+    fn does(&mut self, alloc: Global, header: Header, task: Task) -> bool;
+}
+
+impl Asked for Session {
+    fn does(&mut self, alloc: Global, header: Header, task: Task) -> bool {
+        does(self, alloc, header, task)
+    }
+}
+
+/// Whether a session does this that is its own. Only this function holds one, as anything that can
+/// be asked: of a session it takes long to prove that it is dropped.
+fn does_alone<A: Asked + Drop>(asked: A, alloc: Global, header: Header, task: Task) -> bool {
+    let mut asked = asked;
+    asked.does(alloc, header, task)
 }
 
 /// Whether a new session that records nothing does this.

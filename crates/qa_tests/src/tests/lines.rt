@@ -1,8 +1,10 @@
 //! A line that is written and read back, as a logger does it.
+ghost use Rattle.std.specs.Prelude.{◌≡◌, true};
+ghost use Rattle.qa_format.specs.format.Written.{line_fits};
+
 use crate::tests::events::span;
 use qa_trace::{Ack, Event, Fault, Line, LineFault, Space, Spans, Ticks, read_line, write_line};
 use std::alloc::Global;
-use std::test::Fail;
 
 /// The ranges of packet 3 and of the packets from 0 to `hi`, in that order.
 fn ranges_to(alloc: Global, hi: u64) -> Option<Spans> {
@@ -13,26 +15,48 @@ fn ranges_to(alloc: Global, hi: u64) -> Option<Spans> {
     Some(ranges)
 }
 
-/// The ranges of packets 3, 0 and 1.
-fn ranges(alloc: Global) -> Result<Spans, Fail> {
-    Ok(ranges_to(alloc, 1).ok_or("ranges")?)
+/// Whether a text is read as this line.
+fn is_read(alloc: Global, text: &str, line: &Line) -> bool {
+    match read_line(alloc, text.as_bytes()) {
+        Ok(read) => read == *line,
+        Err(_) => false,
+    }
 }
 
-/// This is an example of docs/library.md.
-#[test]
-fn a_line_is_written_and_read(rt: HostRuntime) -> Result<(), Fail> {
-    let event = Event::Ack(Ack {
+/// Whether a line is written so that it is read as itself.
+fn is_read_as_written(alloc: Global, line: &Line) -> bool
+    requires fitting { line_fits line.now ≡ true }
+{
+    match write_line(alloc, line) {
+        Ok(text) => is_read(alloc, text.as_str(), line),
+        Err(_) => false,
+    }
+}
+
+/// An acknowledgment of packets 3, 0 and 1.
+fn acknowledgment(alloc: Global) -> Option<Event> {
+    Some(Event::Ack(Ack {
         time: Ticks::of(100_000),
         space: Space::App,
-        ranges: ranges(rt.alloc())?,
+        ranges: ranges_to(alloc, 1)?,
         delay: 25_000,
         app_limited: false,
-    });
-    assert!(rt; event.fits());
-    let line = Line::Event(event);
-    let text = write_line(rt.alloc(), &line)?;
-    assert!(rt; read_line(rt.alloc(), text.as_bytes())? == line);
-    Ok(())
+    }))
+}
+
+/// Whether it fits, and its line is read as it is written. These functions are an example of
+/// docs/library.md.
+fn is_acknowledgment_read(alloc: Global) -> Option<bool> {
+    let event = acknowledgment(alloc)?;
+    if !event.fits() {
+        return None;
+    }
+    Some(is_read_as_written(alloc, &Line::Event(event)))
+}
+
+#[test]
+fn a_line_is_written_and_read(rt: HostRuntime) {
+    assert!(rt; is_acknowledgment_read(rt.alloc()) == Some(true));
 }
 
 /// Whether a line of LF is no JSON.

@@ -7,7 +7,6 @@ use qa_base::{Event, Header, PacketNumber, Permission, Role, Rule, SentPacket, S
 use qa_ledger::{Cause, Explains, Ledger, LedgerFault, Owed, Tolerates};
 use qa_sender::Running;
 use std::alloc::Global;
-use std::test::Fail;
 
 /// An ack-eliciting packet of 1,200 bytes at time 0.
 fn packet(number: u64, permission: Permission) -> Option<Event> {
@@ -49,20 +48,26 @@ fn judged(ledger: &mut Running, event: Option<Event>) -> Option<Result<(), Ledge
     Some(ledger.admit(&event))
 }
 
-/// A loss and what comes of it: this is an example of docs/library.md.
-#[test]
-fn a_loss(rt: HostRuntime) -> Result<(), Fail> {
-    let header = Header::new(Role::Server, 1200, None, None, None)?;
-    let mut ledger = Running::start(rt.alloc(), header);
-    judged(&mut ledger, sent(0));
-    judged(&mut ledger, sent(3));
+/// A loss and what comes of it: this is an example of docs/library.md. Whether anything is owed,
+/// and what the ledger answers to the next event.
+fn lose_a_packet(ledger: &mut Running, alloc: Global) -> (bool, Option<Result<(), LedgerFault>>)
+    requires few { ledger.old.connection.events + 3 < max_lines }
+{
+    judged(ledger, sent(0));
+    judged(ledger, sent(3));
     // Packet 0 is three numbers below one that is acknowledged, so it is lost.
-    judged(&mut ledger, ack(rt.alloc(), 3));
-    assert!(rt; ledger.owes());
+    judged(ledger, ack(alloc, 3));
+    let owes = ledger.owes();
     // Until it is declared, nothing else may happen: this is V2, loss-owed.
-    let answer = judged(&mut ledger, ack(rt.alloc(), 0));
-    assert_eq!(rt; answer, Some(Err(LedgerFault::Broken(Rule::LossOwed))));
-    Ok(())
+    (owes, judged(ledger, ack(alloc, 0)))
+}
+
+/// Whether a packet is owed, and nothing else may happen.
+fn owes_a_packet(ledger: &mut Running, alloc: Global) -> bool
+    requires few { ledger.old.connection.events + 3 < max_lines }
+{
+    let refused = Err(LedgerFault::Broken(Rule::LossOwed));
+    lose_a_packet(ledger, alloc) == (true, Some(refused))
 }
 
 /// Whether packet 0 is owed in the application space, and packet 3 is not.
@@ -165,6 +170,7 @@ fn tolerates_the_first(ledger: &mut Running) -> bool
 /// What a new ledger is asked.
 #[derive(Clone, Copy)]
 enum Question {
+    Loss,
     Cause,
     Violation,
     Toleration,
@@ -172,9 +178,10 @@ enum Question {
 
 /// Whether a new ledger answers as was worked out.
 fn answers(ledger: &mut Running, alloc: Global, question: Question) -> bool
-    requires few { ledger.old.connection.events + 2 < max_lines }
+    requires few { ledger.old.connection.events + 3 < max_lines }
 {
     match question {
+        Question::Loss => owes_a_packet(ledger, alloc),
         Question::Cause => tells_of_a_loss(ledger, alloc) == Some(true),
         // V8, past-probe.
         Question::Violation => first_violation_of_a_probe(ledger, alloc) == Some(Rule::PastProbe),
@@ -182,8 +189,8 @@ fn answers(ledger: &mut Running, alloc: Global, question: Question) -> bool
     }
 }
 
-/// The same of a ledger under this header. Only this function and `a_loss` hold one, since it takes
-/// long to prove that it is dropped.
+/// The same of a ledger under this header. Only this function holds one, since it takes long to
+/// prove that it is dropped.
 fn answers_under(alloc: Global, header: Header, question: Question) -> bool {
     let mut ledger = Running::start(alloc, header);
     answers(&mut ledger, alloc, question)
@@ -195,6 +202,12 @@ fn is_answered(alloc: Global, question: Question) -> bool {
         Ok(header) => answers_under(alloc, header, question),
         Err(_) => false,
     }
+}
+
+/// What is lost has to be declared before anything else happens.
+#[test]
+fn a_loss(rt: HostRuntime) {
+    assert!(rt; is_answered(rt.alloc(), Question::Loss));
 }
 
 /// A Lost line that names another packet than the one that is owed: the ledger says which is not
