@@ -3,7 +3,7 @@
 from .failure import Failure
 from .grounds import Basis, Ground
 from .program import Object, Verdict
-from .rows import NO_SPACE, TIMERS
+from .said import NO_SPACE, TIMERS
 from .rules import meaning_of
 from .texts import count, html, link, size, span
 from .timers import Silence, name_of

@@ -4,10 +4,10 @@ same definitions in words."""
 from enum import IntEnum
 
 from .lenient import SPACES
-from .rows import OF_LOSS
+from .said import ELICITING, IN_FLIGHT, KINDS, OF_LOSS
 from .texts import plural, size
 from .timers import name_of
-from .trace import ELICITING, IN_FLIGHT, KINDS, Trace
+from .trace import Trace
 
 ACK, SENT, FIRED, DISCARD = (ord(KINDS[name]) for name in ("ack", "sent", "timer", "discard"))
 # The least that a datagram may have at most, if no header says it.

@@ -3,7 +3,6 @@
 import argparse
 import json
 import sys
-from concurrent.futures import ThreadPoolExecutor
 from dataclasses import dataclass, field
 from pathlib import Path
 
@@ -18,7 +17,7 @@ from .grounds import Basis, basis_of
 from .held import held_after
 from .library import dygraphs, licence, resource, script
 from .logs import Asked, Taken, options_of, taken
-from .payload import Part, packed, part_of, payload, shown, text_of
+from .payload import Part, json_of, packed, packed_of, part_of, payload, shown, text_of
 from .places import place_of
 from .program import (
     PAST,
@@ -33,6 +32,7 @@ from .program import (
 )
 from .rows import rows_by
 from .silences import section_of as silences_of
+from .streams import Aside
 from .template import filled, policy, template
 from .texts import count, html, milliseconds, pairs, plural
 from .timers import Silence, are_short, longest_silences
@@ -132,6 +132,7 @@ class Told:
 
     def __init__(self, wanted: Wanted, trace: Trace, verdict: Verdict, part: Part) -> None:
         self.wanted, self.trace, self.verdict, self.part = wanted, trace, verdict, part
+        self.lines = Aside(lambda: packed(text_of(trace, part)))
         self.basis = basis_by(trace, verdict)
         self.silences = longest_silences(trace, verdict.first_unjudged)
         self.silence = self.silences[0] if self.silences else None
@@ -165,11 +166,8 @@ class Told:
 
     def packed(self, more: Object) -> tuple[str, str]:
         """What the script draws, with what else it is to know, and the lines."""
-        with ThreadPoolExecutor() as pool:
-            lines = pool.submit(lambda: packed(text_of(self.trace, self.part)))
-            columns = payload(self.trace, self.verdict, self.part, self.held)
-            data = packed(json.dumps(columns | more, separators=(",", ":")))
-            return data, lines.result()
+        columns = payload(self.trace, self.verdict, self.part, self.held)
+        return packed_of(json_of(columns | more)), self.lines.result()
 
 
 def written(told: Told, library: str) -> str:

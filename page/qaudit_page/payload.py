@@ -1,9 +1,11 @@
 """What the script of a page draws: columns of a part of a trace, packed."""
 
 import base64
+import json
 import zlib
 from bisect import bisect_left, bisect_right
-from collections.abc import Callable, Iterable, Sequence
+from collections.abc import Callable, Iterable, Iterator, Sequence
+from concurrent.futures import ThreadPoolExecutor
 from dataclasses import dataclass
 from itertools import chain, compress
 from operator import itemgetter, sub
@@ -15,9 +17,10 @@ from .held import needed
 from .lenient import METRICS, SPACES
 from .program import Object, Verdict
 from .rows import AMOUNTS
+from .said import ELICITING
 from .texts import count, decoded
 from .timers import late_timers
-from .trace import ELICITING, Trace
+from .trace import Trace
 
 # What a page takes; docs/page.md has what it costs.
 MAX_LINES = 500_000
@@ -68,10 +71,16 @@ def shown_bytes(line: bytes) -> int:
     return len(line) + 1 if len(line) <= MAX_SHOWN else SHOWN_OF_LONG
 
 
+def are_short(lines: list[bytes]) -> bool:
+    """Whether all lines are shown whole."""
+    return max(map(len, lines), default=0) <= MAX_SHOWN
+
+
 def fits(trace: Trace, part: Part) -> bool:
     """Whether a page takes a part of a trace."""
     lines = trace.lines[part.first - 1 : part.last]
-    return len(lines) <= MAX_LINES and sum(map(shown_bytes, lines)) <= MAX_BYTES
+    size = sum(map(len, lines)) + len(lines) if are_short(lines) else sum(map(shown_bytes, lines))
+    return len(lines) <= MAX_LINES and size <= MAX_BYTES
 
 
 def part_that_fits(trace: Trace, verdict: Verdict, part: Part) -> Part:
@@ -103,17 +112,21 @@ def differences(values: Iterable[int]) -> list[int]:
     return list(map(sub, listed, chain((0,), listed)))
 
 
-def present(values: Sequence[int | None]) -> Sequence[int]:
-    """Values with -1 for none."""
-    if None not in values:
-        return cast(Sequence[int], values)
-    return [NOTHING if it is None else it for it in values]
+def present(values: Sequence[int | None]) -> tuple[Sequence[int], bool]:
+    """Values with -1 for none, and whether a script holds all of them exactly."""
+    try:
+        held = cast(Sequence[int], values)
+        return held, max(held, default=0) <= EXACT
+    except TypeError:
+        # One of them is none.
+        held = [NOTHING if it is None else it for it in values]
+        return held, max(held, default=0) <= EXACT
 
 
 def column(values: Sequence[int | None]) -> Object:
     """A column that a script can hold: what it would round is there as digits too."""
-    held = present(values)
-    if max(held, default=0) <= EXACT:
+    held, is_held = present(values)
+    if is_held:
         return {"by": differences(held), "exact": {}}
     return {"by": differences(min(it, EXACT) for it in held), "exact": exact(values)}
 
@@ -150,9 +163,10 @@ def state_of(trace: Trace, part: Part) -> Object:
 def remaining(trace: Trace, lines: list[int], deadlines: Sequence[int | None]) -> Object:
     """How long after each line the timer is set for, which repeats where deadlines rise."""
     times = trace.time
-    pairs = zip(lines, deadlines, strict=True)
-    after = [0 if due is None else min(due, EXACT) - times[line - 1] for line, due in pairs]
-    return {"by": differences(after), "exact": exact(deadlines)}
+    dues, is_held = present(deadlines)
+    pairs = zip(lines, dues if is_held else [min(due, EXACT) for due in dues], strict=True)
+    after = [0 if due == NOTHING else due - times[line - 1] for line, due in pairs]
+    return {"by": differences(after), "exact": {} if is_held else exact(deadlines)}
 
 
 def packets_of(trace: Trace, part: Part) -> Object:
@@ -278,10 +292,41 @@ def shown(line: bytes) -> str:
 
 def text_of(trace: Trace, part: Part) -> str:
     """The lines of a part as one text."""
-    return "\n".join(map(shown, trace.lines[part.first - 1 : part.last]))
+    lines = trace.lines[part.first - 1 : part.last]
+    return decoded(b"\n".join(lines)) if are_short(lines) else "\n".join(map(shown, lines))
 
 
-def packed(text: str) -> str:
+def packed(*parts: str) -> str:
     """Text, deflated and in base64, so that nothing in it can end an element of the page."""
-    data = zlib.compress(text.encode("utf-8", "backslashreplace"), LEVEL)
+    return packed_of(parts)
+
+
+def packed_of(parts: Iterable[str]) -> str:
+    """The same of a text in parts, each of which is deflated while the next one is made."""
+    deflating = zlib.compressobj(LEVEL)
+    with ThreadPoolExecutor(1) as pool:
+        begun = [pool.submit(deflating.compress, encoded(part)) for part in parts]
+        data = b"".join(it.result() for it in begun) + deflating.flush()
     return base64.b64encode(data).decode("ascii")
+
+
+def encoded(text: str) -> bytes:
+    """The bytes of a text."""
+    return text.encode("utf-8", "backslashreplace")
+
+
+def json_of(columns: Object) -> Iterator[str]:
+    """An object as JSON, a member of a member at a time."""
+    before = "{"
+    for name, value in columns.items():
+        yield f"{before}{json.dumps(name)}:"
+        if isinstance(value, dict) and value:
+            inner = "{"
+            for key, column in value.items():
+                yield f"{inner}{json.dumps(key)}:{json.dumps(column, separators=(',', ':'))}"
+                inner = ","
+            yield "}"
+        else:
+            yield json.dumps(value, separators=(",", ":"))
+        before = ","
+    yield "}"

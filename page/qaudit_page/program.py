@@ -15,8 +15,8 @@ from .failure import Failure
 
 NAME = "qaudit-why"
 VERDICTS = ("accepted", "refused", "unreadable")
-# How many rows are read at once.
-PIECE = 2_000
+# How many bytes of what it writes are read at once, about two thousand rows.
+PIECE = 800_000
 SHOWN = 300
 
 # What JSON says; each value is looked at before it is used.
@@ -135,10 +135,18 @@ class Run:
             raise ValueError("standard output is not captured")
         return self.process.stdout
 
-    def lines(self) -> Iterator[list[bytes]]:
-        """The lines that it writes, some at a time, and that it ended with a verdict."""
-        while piece := self.output.readlines(PIECE * 400):
-            yield piece
+    def pieces(self) -> Iterator[bytes]:
+        """What it writes, some whole lines at a time, and that it ended with a verdict."""
+        begun = b""
+        while piece := self.output.read(PIECE):
+            lines, end, rest = piece.rpartition(b"\n")
+            if end:
+                yield begun + lines + end
+                begun = rest
+            else:
+                begun += rest
+        if begun:
+            yield begun
         self.end()
 
     def end(self) -> None:
@@ -157,7 +165,7 @@ class Run:
 
 def verdict_by(run: Run) -> Verdict:
     """What a run with `--json` says."""
-    text = b"".join(line for piece in run.lines() for line in piece)
+    text = b"".join(run.pieces())
     try:
         said = json.loads(text)
     except ValueError:

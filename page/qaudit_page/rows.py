@@ -6,24 +6,15 @@ from collections.abc import Callable, Iterable, Iterator
 from concurrent.futures import Future
 from concurrent.futures.process import BrokenProcessPool
 from dataclasses import dataclass, field
-from itertools import islice
+from itertools import compress, islice
 from operator import itemgetter
 
 from .failure import Failure
-from .lenient import SPACES, Event
 from .program import Object, Run
+from .said import TIMERS, Said, said_of
 from .streams import workers_of
 from .texts import runs
 
-NO_SPACE = 3
-# Beside the space of a line: that a timer is the one for losses.
-OF_LOSS = 4
-# How it is written what a timer is set for.
-TIMERS: dict[tuple[str | None, str | None], int] = {
-    (None, None): NO_SPACE,
-    **{("pto", name): space for space, name in enumerate(SPACES)},
-    **{("loss", name): space + OF_LOSS for space, name in enumerate(SPACES)},
-}
 # The amounts of a state and their keys in a row, for the unit of its times.
 AMOUNTS = {
     "window": "window_bytes",
@@ -69,7 +60,7 @@ class State:
 class Rows:
     """Some rows: what their lines say, and the states behind them."""
 
-    events: list[Event]
+    said: Said
     state: State
 
 
@@ -78,21 +69,21 @@ def columns_of(rows: list[Object]) -> Rows:
     held = list(map(itemgetter("state"), rows))
     state = State(line=list(map(itemgetter("line"), rows)))
     unit = "ns" if held and "latest_rtt_ns" in held[0] else "us"
-    for name, key in AMOUNTS.items():
-        state.amounts[name] = list(map(itemgetter(key.format(unit)), held))
+    amounts = itemgetter(*(key.format(unit) for key in AMOUNTS.values()))
+    for name, values in zip(AMOUNTS, zip(*map(amounts, held), strict=True), strict=False):
+        state.amounts[name] = list(values)
     state.timer.extend(map(TIMERS.__getitem__, map(itemgetter("set_kind", "set_space"), held)))
-    for place, owing in enumerate(held):
-        owed = owing["owed"]
-        state.owed.append(sum(high - low + 1 for low, high in owed) if owed else 0)
-        if owed:
-            state.owed_text[place] = f"{owing['owed_space']} {runs(owed)}"
-    return Rows(list(map(itemgetter("event"), rows)), state)
+    owing = list(map(itemgetter("owed"), held))
+    state.owed = [sum(high - low + 1 for low, high in owed) if owed else 0 for owed in owing]
+    for place in compress(range(len(owing)), owing):
+        state.owed_text[place] = f"{held[place]['owed_space']} {runs(owing[place])}"
+    return Rows(said_of(list(map(itemgetter("event"), rows))), state)
 
 
-def read(lines: list[bytes]) -> Rows:
+def read(lines: bytes) -> Rows:
     """Lines that the program wrote, a row each."""
     try:
-        rows: list[Object] = json.loads(b"[" + b",".join(lines) + b"]")
+        rows: list[Object] = json.loads(b"[" + lines.rstrip(b"\n").replace(b"\n", b",") + b"]")
     except ValueError as fault:
         raise Failure(f"qaudit-why wrote rows that are not JSON: {fault}") from fault
     return columns_of(rows)
@@ -101,7 +92,7 @@ def read(lines: list[bytes]) -> Rows:
 def rows_by(run: Run, readers: int) -> Iterator[Rows]:
     """The rows of a run with `--rows`, some at a time. All but the first few are read by so many
     other processes, where that is not 0."""
-    pieces = run.lines()
+    pieces = run.pieces()
     if not readers:
         yield from map(read, pieces)
         return
@@ -118,7 +109,7 @@ def rows_by(run: Run, readers: int) -> Iterator[Rows]:
 
 
 def ahead(
-    begin: Callable[[list[bytes]], Future[Rows]], pieces: Iterable[list[bytes]]
+    begin: Callable[[bytes], Future[Rows]], pieces: Iterable[bytes]
 ) -> Iterator[Rows]:
     """What is begun with each piece, in order, while some behind it are worked on."""
     begun: deque[Future[Rows]] = deque()

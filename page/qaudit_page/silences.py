@@ -4,9 +4,10 @@ line that ended it."""
 from collections.abc import Iterable
 
 from .held import words
+from .said import KINDS
 from .texts import count, html, link, span
 from .timers import Silence
-from .trace import KINDS, Trace
+from .trace import Trace
 
 NAMES = {ord(kind): name for name, kind in KINDS.items()}
 

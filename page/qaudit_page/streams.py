@@ -9,8 +9,9 @@ import os
 import signal
 import sys
 from collections.abc import Callable, Iterator
-from concurrent.futures import ProcessPoolExecutor
+from concurrent.futures import Future, ProcessPoolExecutor
 from contextlib import contextmanager
+from threading import Thread
 from typing import TextIO
 
 from .failure import Failure, Status
@@ -101,6 +102,27 @@ def follow(parent: int) -> None:
     if os.getppid() != parent:
         os._exit(Status.FAULT)
     signal.pthread_sigmask(signal.SIG_UNBLOCK, {signal.SIGINT})
+
+
+class Aside(Thread):
+    """Text that a thread makes meanwhile. It keeps nobody from ending."""
+
+    def __init__(self, make: Callable[[], str]) -> None:
+        super().__init__(daemon=True)
+        self._make, self._made = make, Future[str]()
+        with without_interrupts():
+            self.start()
+
+    def run(self) -> None:
+        """Makes it."""
+        try:
+            self._made.set_result(self._make())
+        except BaseException as fault:
+            self._made.set_exception(fault)
+
+    def result(self) -> str:
+        """What is made, or how that failed."""
+        return self._made.result()
 
 
 @contextmanager

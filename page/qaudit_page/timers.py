@@ -8,9 +8,9 @@ from typing import NamedTuple
 
 from .facts import SET_FOR
 from .lenient import SPACES
-from .rows import NO_SPACE, OF_LOSS
+from .said import ELICITING, KINDS, NO_SPACE, OF_LOSS
 from .texts import NANOSECONDS, NANOSECONDS_IN_A_MILLISECOND, size, span
-from .trace import BLANK, ELICITING, KINDS, OTHER, Trace
+from .trace import BLANK, OTHER, Trace
 
 # Lines without a time of their own; a report has one, but nothing happens at it.
 TIMELESS = frozenset(map(ord, (KINDS["header"], BLANK, OTHER)))
@@ -98,22 +98,25 @@ class Clock:
 def longest_silences(trace: Trace, unjudged: int | None) -> list[Silence]:
     """The longest silences, of those that are equally long the first. One that went on past a
     report is one. The first line that was not judged may end one."""
-    state, clock, lines = trace.state, Clock(), followed_by(trace, unjudged)
-    deadlines, flying = state.amounts["deadline"], state.amounts["in_flight"]
-    longest = Longest()
-    begin, in_flight = 0, 0
+    kinds, times, timers = trace.kind, trace.time, trace.state.timer
+    deadlines, flying = trace.state.amounts["deadline"], trace.state.amounts["in_flight"]
+    clock, longest = Clock(), Longest()
+    begin, in_flight, timer = 0, 0, NO_SPACE
+    lines, count = followed_by(trace, unjudged), len(trace.state.line)
     for row, line in enumerate(lines):
-        if trace.kind[line - 1] in TIMELESS:
+        kind = kinds[line - 1]
+        if kind in TIMELESS:
             continue
-        time, timer = trace.time[line - 1], clock.set_for[0]
-        long = time - begin
-        if (in_flight or timer != NO_SPACE) and long > longest.least:
+        time = times[line - 1]
+        if time - begin > longest.least and (in_flight or timer != NO_SPACE):
+            longest.least = time - begin
             late = clock.late_by(time)
-            longest.current = Silence(line, long, in_flight, timer, late, row - 1)
-            longest.least = long
-        if row < len(state.line) and trace.kind[line - 1] != REPORT:
-            longest.keep()
-            clock.after(state.timer[row], deadlines[row], time)
+            longest.current = Silence(line, longest.least, in_flight, timer, late, row - 1)
+        if row < count and kind != REPORT:
+            if longest.current is not None:
+                longest.keep()
+            timer = timers[row]
+            clock.after(timer, deadlines[row], time)
             begin, in_flight = time, flying[row] or 0
     longest.keep()
     return [silence for _, _, silence in sorted(longest.kept, reverse=True)]
@@ -122,16 +125,20 @@ def longest_silences(trace: Trace, unjudged: int | None) -> list[Silence]:
 def late_timers(trace: Trace, unjudged: int | None = None) -> Iterator[Late]:
     """The events before which a timer of packets should have fired, as V18 finds them. The first
     line that was not judged may be one."""
-    state, clock, awaited = trace.state, Clock(), awaited_early(trace)
-    deadlines, lines = state.amounts["deadline"], followed_by(trace, unjudged)
+    times, timers, deadlines = trace.time, trace.state.timer, trace.state.amounts["deadline"]
+    awaited: list[bool] = []
+    # What the timer is set for before a line, and since when.
+    timer, deadline, since = NO_SPACE, None, 0
+    lines, count = followed_by(trace, unjudged), len(trace.state.line)
     for row, line in enumerate(lines):
-        time, timer = trace.time[line - 1], clock.set_for[0]
-        is_of_packets = timer >= APP and timer != NO_SPACE or (row > 0 and awaited[row - 1])
-        late = clock.late_by(time) if is_of_packets else 0
-        if late:
-            yield Late(line, late, timeout_of(trace, row - 1))
-        if row < len(state.line):
-            clock.after(state.timer[row], deadlines[row], time)
+        time = times[line - 1]
+        if deadline is not None and time > deadline and time > since:
+            awaited = awaited or awaited_early(trace)
+            if timer >= APP and timer != NO_SPACE or awaited[row - 1]:
+                late = time - max(deadline, since)
+                yield Late(line, late, timeout_of(trace, row - 1))
+        if row < count and (deadlines[row] != deadline or timers[row] != timer):
+            timer, deadline, since = timers[row], deadlines[row], time
 
 
 def followed_by(trace: Trace, unjudged: int | None) -> list[int]:

@@ -3,29 +3,16 @@ packet by the lines."""
 
 from array import array
 from bisect import bisect_left
-from collections.abc import Callable, Iterable
+from collections.abc import Iterable, Sequence
 
 from .failure import Failure
-from .lenient import METRICS, SPACES, Event, read
-from .rows import NO_SPACE, TIMERS, Rows, State
+from .lenient import SPACES, Event, read
+from .rows import Rows, State
+from .said import NO_SPACE, NO_TIME, Mark, Said, said_of
 
-# How the kind of a line is written, a character a line.
-KINDS = {
-    "header": "h",
-    "sent": "s",
-    "ack": "a",
-    "lost": "l",
-    "timer": "t",
-    "discard": "d",
-    "confirmed": "c",
-    "keys": "k",
-    "metrics": "m",
-}
 BLANK, OTHER = "b", "u"
-CODES = {name: ord(kind) for name, kind in KINDS.items()}
-SPACE_OF = {name: space for space, name in enumerate(SPACES)}
-ELICITING, IN_FLIGHT, PROBE, RECOVERY = 1, 2, 4, 8
-LEAVES = {"probe": PROBE, "recovery": RECOVERY}
+# How many lines that were not judged are read at once.
+MANY = 2_000
 
 
 class Numbers:
@@ -112,14 +99,6 @@ class Trace:
         self.now = 0
         # The first line of which nothing is known yet.
         self.next_line = 1
-        self.takes: dict[str, Callable[[int, Event], None]] = {
-            "sent": self.sent,
-            "ack": self.acknowledged,
-            "lost": self.lost,
-            "timer": self.fired,
-            "discard": self.discarded,
-            "metrics": self.reported,
-        }
 
     # Lines.
 
@@ -130,92 +109,101 @@ class Trace:
         self.time[line - 1] = self.now
         self.next_line = line + 1
 
-    def event(self, line: int, said: Event) -> None:
-        """What a line says."""
-        name = said["event"]
-        self.kind[line - 1] = CODES[name]
-        if name != "header":
-            self.now = said["time"]
-            take = self.takes.get(name)
-            if take is not None:
-                take(line, said)
-        self.time[line - 1] = self.now
-        self.next_line = line + 1
+    def take(self, lines: Sequence[int], said: Said) -> None:
+        """What lines say, with the lines between them, which say nothing."""
+        if not lines:
+            return
+        self.write(lines, self.times_of(said), said)
+        packets, begin, sent = self.packets, len(self.packets.line), 0
+        packets.line.extend(map(lines.__getitem__, said.place))
+        packets.space.extend(map(said.space.__getitem__, said.place))
+        packets.number.extend(said.number)
+        packets.size.extend(said.size)
+        packets.flags.extend(said.flags)
+        for mark in said.marks:
+            self.add(begin + sent, begin + mark.sent)
+            sent = mark.sent
+            self.mark(lines[mark.place], mark)
+        self.add(begin + sent, len(packets.line))
+        self.limited.extend(lines[place] for place in said.limited)
+        self.metrics.extend((lines[place], values) for place, values in said.metrics)
 
-    def sent(self, line: int, said: Event) -> None:
-        """A packet."""
-        packets = self.packets
-        space = self.space[line - 1] = SPACE_OF[said["space"]]
-        self.numbers[space].add(said["number"], len(packets.line))
-        flags = ELICITING if said.get("eliciting") is True else 0
-        flags += IN_FLIGHT if said.get("in_flight") is True else 0
-        leave = said.get("leave")
-        flags += LEAVES.get(leave, 0) if isinstance(leave, str) else 0
-        packets.line.append(line)
-        packets.space.append(space)
-        packets.number.append(said["number"])
-        packets.size.append(said["size"])
-        packets.flags.append(flags)
+    def times_of(self, said: Said) -> list[int]:
+        """The times of lines: that of a header is the one before it."""
+        times = said.time
+        if said.header is not None:
+            times = times.copy()
+            for place, time in enumerate(times):
+                if time == NO_TIME:
+                    times[place] = times[place - 1] if place else self.now
+        return times
 
-    def acknowledged(self, line: int, said: Event) -> None:
-        """An acknowledgment."""
-        self.mark("acked", line, said, self.packets.acked)
-        self.acks.append((line, max(high for _, high in said["ranges"])))
-        if said.get("limited") is True:
-            self.limited.append(line)
+    def write(self, lines: Sequence[int], times: list[int], said: Said) -> None:
+        """The kind, the time and the space of lines."""
+        first, last = self.next_line, lines[-1]
+        if last > len(self.lines):
+            raise IndexError(last)
+        if last - first + 1 == len(lines):
+            self.kind[first - 1 : last] = said.kind
+            self.time[first - 1 : last] = array("q", times)
+            self.space[first - 1 : last] = said.space
+        else:
+            for line, kind, time, space in zip(lines, said.kind, times, said.space, strict=True):
+                while self.next_line < line:
+                    self.blank(self.next_line)
+                self.kind[line - 1], self.space[line - 1] = kind, space
+                self.now = self.time[line - 1] = time
+                self.next_line = line + 1
+        self.now, self.next_line = times[-1], last + 1
 
-    def lost(self, line: int, said: Event) -> None:
-        """Packets that were declared lost."""
-        self.mark("lost", line, said, self.packets.lost)
+    def add(self, first: int, end: int) -> None:
+        """Packets, so that they can be marked."""
+        packets, numbers = self.packets, self.numbers
+        for packet in range(first, end):
+            numbers[packets.space[packet]].add(packets.number[packet], packet)
 
-    def mark(self, mark: str, line: int, said: Event, ends: list[int]) -> None:
+    def mark(self, line: int, mark: Mark) -> None:
         """Notes the line that says first what became of packets."""
-        space = self.space[line - 1] = SPACE_OF[said["space"]]
-        numbers = self.numbers[space]
-        for low, high in said["ranges"]:
-            for packet in numbers.mark(mark, low, high):
+        if mark.kind == "discard":
+            self.discard(line, mark.space)
+            return
+        packets, numbers = self.packets, self.numbers[mark.space]
+        ends, name = (packets.acked, "acked") if mark.kind == "ack" else (packets.lost, "lost")
+        for low, high in mark.ranges:
+            for packet in numbers.mark(name, low, high):
                 ends[packet] = line
+        if mark.kind == "ack":
+            self.acks.append((line, max(high for _, high in mark.ranges)))
 
-    def fired(self, line: int, said: Event) -> None:
-        """A timer."""
-        self.space[line - 1] = TIMERS[said["kind"], said["space"]]
-
-    def discarded(self, line: int, said: Event) -> None:
+    def discard(self, line: int, space: int) -> None:
         """What is neither acknowledged nor lost of a space goes with its keys."""
         packets = self.packets
-        space = self.space[line - 1] = SPACE_OF[said["space"]]
         for packet in self.numbers[space].discard():
             if not packets.acked[packet] and not packets.lost[packet]:
                 packets.gone[packet] = line
 
-    def reported(self, line: int, said: Event) -> None:
-        """What the sender reports of itself."""
-        self.metrics.append((line, [said.get(name) for name in METRICS]))
-
     # Rows.
 
-    def take(self, rows: Rows) -> None:
-        """What the lines of rows say, with the lines between them, which say nothing."""
-        for line, said in zip(rows.state.line, rows.events, strict=True):
-            while self.next_line < line:
-                self.blank(self.next_line)
-            if said["event"] == "header":
-                self.header = said
-                self.unit = said.get("unit", "us")
-            self.event(line, said)
+    def take_rows(self, rows: Rows) -> None:
+        """What rows say, and the states behind them."""
+        if rows.said.header is not None:
+            self.header = rows.said.header
+            self.unit = self.header.get("unit", "us")
+        self.take(rows.state.line, rows.said)
         self.state.extend(rows.state)
 
     def read_rest(self, first_unjudged: int | None) -> None:
         """The lines behind the last row. From the first unjudged one on they are read as they seem;
         those before it say nothing."""
-        for line in range(self.next_line, len(self.lines) + 1):
-            said = None
-            if first_unjudged is not None and line >= first_unjudged:
-                said = read(self.lines[line - 1])
-            if said is None:
-                self.blank(line)
-            else:
-                self.event(line, said)
+        end = len(self.lines) + 1
+        begin = end if first_unjudged is None else max(self.next_line, first_unjudged)
+        for first in range(begin, end, MANY):
+            lines = range(first, min(first + MANY, end))
+            events = [(line, read(self.lines[line - 1])) for line in lines]
+            drawn = [(line, event) for line, event in events if event is not None]
+            self.take([line for line, _ in drawn], said_of([event for _, event in drawn]))
+        while self.next_line < end:
+            self.blank(self.next_line)
 
 
 def trace_of(data: bytes, rows: Iterable[Rows]) -> Trace:
@@ -223,7 +211,7 @@ def trace_of(data: bytes, rows: Iterable[Rows]) -> Trace:
     trace = Trace(data)
     try:
         for piece in rows:
-            trace.take(piece)
+            trace.take_rows(piece)
     except (KeyError, TypeError, ValueError, IndexError, AttributeError) as fault:
         text = f"qaudit-why wrote an unknown row after line {trace.next_line - 1}: {fault!r}"
         raise Failure(text) from fault

@@ -21,7 +21,7 @@ from qaudit_page.grounds import Basis, basis_of
 from qaudit_page.lenient import SPACES
 from qaudit_page.page import basis_by, opening_of
 from qaudit_page.program import Object, Verdict
-from qaudit_page.rows import OF_LOSS
+from qaudit_page.said import OF_LOSS
 from qaudit_page.texts import span
 from qaudit_page.timers import Silence, late_timers, longest_silences
 from qaudit_page.trace import Trace

@@ -441,7 +441,7 @@ def row(line: int) -> str:
 HERE, READ = os.getpid(), rows.read
 
 
-def read_here(lines: list[bytes]) -> Rows:
+def read_here(lines: bytes) -> Rows:
     """Reads rows in this process; another one ends."""
     if os.getpid() != HERE:
         os._exit(1)
