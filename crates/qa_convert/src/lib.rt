@@ -4,18 +4,30 @@
 
 mod clock;
 mod dialects;
+mod event;
 mod flight;
+mod flights;
+mod groups;
 mod guess;
 mod law;
+mod looking;
 mod noted;
+mod order;
 mod output;
 mod own;
 mod packet;
 mod place;
 mod rounding;
+mod samples;
+mod sizes;
+mod survey;
+mod validation;
 
 pub use clock::Clock;
 pub use dialects::{Absent, Dialect, GENERIC, Limited, dialect_named, dialect_of};
+pub use event::{
+    At, Expiry, LoggedEvent, LostPacket, PeerParameters, RecoveryParameters, Report, Said,
+};
 pub use flight::{Flight, Flying};
 pub use guess::{Guess, put_guesses};
 pub use law::{own_keys_are_passed_over, written_lines_are_read};

@@ -8,6 +8,8 @@ ghost use Rattle.qa_convert.specs.Packets.{AreAcksOf, GivesPacket, IsAckOf, Keep
 ghost use Rattle.qa_convert.specs.declared.packet.LoggedAck.{LoggedAck as Kept};
 ghost use Rattle.qa_qlog.specs.Frames as frames;
 ghost use Rattle.qa_qlog.specs.Frames.{listed};
+ghost use Rattle.qa_qlog.specs.Losses as losses;
+ghost use Rattle.qa_qlog.specs.Packets.{header_of};
 
 use json::{Element, Items};
 use qa_base::{Space, Spans};
@@ -24,6 +26,9 @@ pub enum NoEvent {
     /// It does not say what it has to.
     #[error("{0}")]
     Unread(NoValue),
+    /// It is a lost packet of no type.
+    #[error("no packet_type, so it does not say of which space the packet is")]
+    NoPacketType,
     /// Out of memory.
     #[error("out of memory")]
     OutOfMemory,
@@ -80,6 +85,8 @@ pub struct LoggedPacket {
     pub number: u64,
     /// Its size in bytes, if the log has it.
     pub size: Option<u64>,
+    /// Whether it leaves a byte free that was kept for a PING (see `Sizes`).
+    pub keeps_room: bool,
     /// What its frames make of it.
     pub content: Content,
     /// Whether it says that a probe timeout sent it.
@@ -99,18 +106,32 @@ impl LoggedPacket {
         ensures { (d : Option Json) → Finds object.entry d → IfOk result (GivesPacket unit d) }
     {
         let is_probe = is_probe(&object);
-        let packet = Packet::of(object);
-        let Some(space) = space_of(&packet) else {
+        LoggedPacket::in_packet(alloc, &Packet::of(object), is_probe, unit)
+    }
+
+    /// The packet; None if it is of no space.
+    pub(crate) fn in_packet(
+        alloc: Global,
+        packet: &Packet<'_, '_>,
+        is_probe: bool,
+        unit: Unit,
+    ) -> Result<Option<LoggedPacket>, NoEvent>
+        ensures { (d : Option Json) → Finds packet.now.object d
+            → Finds packet.now.header (header_of d) → is_probe ≡ losses.is_probe d
+            → IfOk result (GivesPacket unit d) }
+    {
+        let Some(space) = space_of(packet) else {
             return Ok(None);
         };
         let number = packet.number()?;
         let size = packet.size()?;
-        let content = content_of(&packet)?;
-        let acks = acks_of(alloc, &packet, unit)?;
+        let content = content_of(packet)?;
+        let acks = acks_of(alloc, packet, unit)?;
         Ok(Some(LoggedPacket {
             space,
             number,
             size,
+            keeps_room: false,
             content,
             is_probe,
             acks,
