@@ -2,6 +2,7 @@
 //! where in the log they are from and what was guessed.
 #![tactic(auto)]
 
+mod bare;
 mod clock;
 mod dialects;
 mod event;
@@ -9,9 +10,12 @@ mod flight;
 mod flights;
 mod groups;
 mod guess;
+mod handshake;
 mod law;
 mod looking;
 mod noted;
+mod notes;
+mod omission;
 mod order;
 mod output;
 mod own;
@@ -22,6 +26,8 @@ mod samples;
 mod sizes;
 mod survey;
 mod validation;
+mod values;
+mod writing;
 
 pub use clock::Clock;
 pub use dialects::{Absent, Dialect, GENERIC, Limited, dialect_named, dialect_of};
