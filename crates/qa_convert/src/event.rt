@@ -8,10 +8,10 @@ ghost use Rattle.qa_convert.specs.Said.{IsRecoveryOf, IsReportOf, Says};
 ghost use Rattle.qa_convert.specs.Said.{SaysLost, SaysReceived, SaysSent};
 ghost use Rattle.qa_qlog.specs.Packets.{header_of};
 
-use crate::packet::{LoggedPacket, NoEvent};
+use crate::packet::{LoggedPacket, NoEvent, number_of};
 use crate::place::Place;
 use json::{Element, Items};
-use qa_base::{Space, TimerKind};
+use qa_base::{PacketNumber, Space, TimerKind};
 use qa_qlog::{
     ByteCounts, EventName, Key, NoValue, Packet, PacketType, Rtts, Unit, duration_in, has_expired,
     has_only_pto_count, is_application_limited, is_of_peer, is_probe, is_repeated, key_space,
@@ -25,7 +25,7 @@ pub struct LostPacket {
     /// Its space.
     pub space: Space,
     /// Its number.
-    pub number: u64,
+    pub number: PacketNumber,
     /// Whether it is only sent again by a probe, and so is not lost.
     pub is_repeated: bool,
 }
@@ -205,7 +205,7 @@ fn lost_of(object: Option<Element<'_, '_>>) -> Result<Said, NoEvent>
     };
     Ok(Said::Lost(LostPacket {
         space,
-        number: packet.number()?,
+        number: number_of(&packet)?,
         is_repeated,
     }))
 }

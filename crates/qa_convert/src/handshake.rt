@@ -8,6 +8,7 @@ use crate::event::At;
 use crate::guess::Guess;
 use crate::packet::LoggedPacket;
 use crate::place::Place;
+use crate::size::PacketSize;
 use crate::survey::Survey;
 use crate::writing::{NoLine, Writing};
 use qa_base::{Event, Role, Space};
@@ -266,7 +267,7 @@ impl Keys {
         if self.initial_due.is_some() || !self.initial_is_untold {
             return false;
         }
-        let added = if packet.is_in_flight { packet.size } else { 0 };
+        let added = if packet.is_in_flight { packet.size.get() } else { 0 };
         u128::from(reported) == writing.flights.bytes().saturating_add(u128::from(added))
     }
 
@@ -304,6 +305,6 @@ pub(crate) struct Change {
 #[derive(Clone, Copy)]
 pub(crate) struct SentPacket<'p> {
     pub(crate) packet: &'p LoggedPacket,
-    pub(crate) size: u64,
+    pub(crate) size: PacketSize,
     pub(crate) is_in_flight: bool,
 }

@@ -4,6 +4,7 @@ use crate::event::{At, LostPacket, Report};
 use crate::flight::Flying;
 use crate::flights::Flights;
 use crate::packet::{LoggedAck, LoggedPacket};
+use crate::size::PacketSize;
 use crate::samples::{Measured, Samples};
 use qa_base::Space;
 use std::alloc::{AllocError, Global};
@@ -246,7 +247,7 @@ impl Looking {
         &mut self,
         at: At,
         packet: &LoggedPacket,
-        size: u64,
+        size: PacketSize,
     ) -> Result<(), AllocError> {
         let is_reported = self.report.is_some();
         self.settle();
@@ -257,12 +258,12 @@ impl Looking {
             return Ok(());
         }
         let flying = Flying {
-            size: size.min(65_527),
+            size: size.get(),
             time: at.time,
         };
         self.flights
             .of_mut(packet.space)
-            .add(packet.number, flying)?;
+            .add(packet.number.get(), flying)?;
         if is_reported {
             let bytes = self.flights.bytes();
             self.behind.amend(bytes);
@@ -273,7 +274,7 @@ impl Looking {
 
     /// Looks at a loss that a probe does not only repeat.
     pub(crate) fn see_lost(&mut self, time: u64, lost: LostPacket) -> Result<(), AllocError> {
-        self.flights.of_mut(lost.space).take(lost.number);
+        self.flights.of_mut(lost.space).take(lost.number.get());
         self.lost.push((time, lost))?;
         Ok(())
     }
@@ -420,7 +421,7 @@ impl Looking {
 /// How far a loss is from a packet that shows it; a millisecond from another.
 fn distance(shown: Option<Shown>, time: u64, lost: LostPacket) -> u64 {
     match shown {
-        Some(shown) if shown.space == lost.space && lost.number < shown.top => {
+        Some(shown) if shown.space == lost.space && lost.number.get() < shown.top => {
             if shown.time < time {
                 time - shown.time
             } else {

@@ -4,6 +4,7 @@
 //! none fills its packet, unless the next data of its stream begins earlier. Of the last one of a
 //! stream nothing says how long it is, so the least is taken.
 use crate::packet::NoEvent;
+use crate::size::PacketSize;
 use json::{Element, Items};
 use qa_base::Space;
 use qa_qlog::{
@@ -21,14 +22,11 @@ const TAG: u64 = 16;
 const VERSION: u64 = 4;
 /// A packet that has to be ack-eliciting keeps room for a PING until something else elicits.
 const ROOM: u64 = 1;
-/// The most bytes of a packet.
-const GREATEST: u64 = 65_527;
 
 /// The size of a packet, by its header and frames.
 #[derive(Clone, Copy)]
 pub(crate) struct FoundSize {
-    /// In bytes, 1 to 65527.
-    pub(crate) bytes: u64,
+    pub(crate) size: PacketSize,
     /// Whether it ends one byte before the packet is full, since a PING had to have room.
     pub(crate) keeps_room: bool,
 }
@@ -117,7 +115,7 @@ impl Sizes {
         let bytes = size.saturating_add(data);
         let keeps_room = has_open && bytes.saturating_add(ROOM) == self.full;
         Ok(Some(FoundSize {
-            bytes: ranged(bytes)?,
+            size: ranged(bytes)?,
             keeps_room,
         }))
     }
@@ -214,15 +212,15 @@ fn whole_length(frame: &Element<'_, '_>) -> Result<Option<u64>, NoValue> {
 /// The size by the length of the payload, or by what the header says.
 fn size_by_payload(packet: &Packet<'_, '_>) -> Result<Option<FoundSize>, NoValue> {
     if let Some(payload) = packet.payload_length()? {
-        let bytes = ranged(size_with_header(packet, payload))?;
+        let size = ranged(size_with_header(packet, payload))?;
         return Ok(Some(FoundSize {
-            bytes,
+            size,
             keeps_room: false,
         }));
     }
     match packet.header_length()? {
         Some(length) => Ok(Some(FoundSize {
-            bytes: ranged(length)?,
+            size: ranged(length)?,
             keeps_room: false,
         })),
         None => Ok(None),
@@ -230,24 +228,21 @@ fn size_by_payload(packet: &Packet<'_, '_>) -> Result<Option<FoundSize>, NoValue
 }
 
 /// A size, if a packet may have it.
-fn ranged(bytes: u64) -> Result<u64, NoValue> {
-    if 1 <= bytes && bytes <= GREATEST {
-        Ok(bytes)
-    } else {
-        Err(NoValue::OutOfRange(Key::Length))
-    }
+fn ranged(bytes: u64) -> Result<PacketSize, NoValue> {
+    PacketSize::new(bytes).ok_or(NoValue::OutOfRange(Key::Length))
 }
 
 /// The size of a packet with so many bytes of frames (RFC 9000, section 17).
 fn size_with_header(packet: &Packet<'_, '_>, payload: u64) -> u64 {
     let destination = length_of_hex(packet.destination());
     let source = length_of_hex(packet.source());
+    let has_source = !packet.source().unwrap_or("").is_empty();
     let sealed = payload.saturating_add(NUMBER + TAG);
     let is_app = match packet.packet_type() {
         Some(kind) => kind.space() == Some(Space::App),
         None => false,
     };
-    if is_app && source == 0 {
+    if is_app && !has_source {
         return sealed.saturating_add(1).saturating_add(destination);
     }
     let ids = 1u64

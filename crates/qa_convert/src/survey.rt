@@ -5,6 +5,7 @@ use crate::guess::Guess;
 use crate::looking::{Looking, MILLISECOND};
 use crate::packet::{LoggedPacket, NoEvent};
 use crate::place::Place;
+use crate::size::PacketSize;
 use crate::sizes::Sizes;
 use crate::validation::{LEAST_DATAGRAM, Validation};
 use json::Element;
@@ -288,31 +289,31 @@ impl Survey {
         at: At,
         packet: &LoggedPacket,
         said: &Packet<'_, '_>,
-    ) -> Result<u64, NoEvent> {
-        *self.last_numbers.of_mut(packet.space) = Some(packet.number);
+    ) -> Result<PacketSize, NoEvent> {
+        *self.last_numbers.of_mut(packet.space) = Some(packet.number.get());
         self.sent_frames.see(said);
         let size = match packet.size {
             Some(size) => size,
             None => self.find_size(said)?,
         };
-        self.largest_size = self.largest_size.max(size);
+        self.largest_size = self.largest_size.max(size.get());
         if packet.content.has_ack_frequency {
             self.has_ack_frequency = true;
         }
         if packet.content.has_handshake_done {
             self.handshake_done = self.handshake_done.or(Some(at.index));
         }
-        self.validation.see_sent(at.time, packet, size);
+        self.validation.see_sent(at.time, packet, size.get());
         Ok(size)
     }
 
     /// The size of a packet whose record does not have it.
-    fn find_size(&mut self, said: &Packet<'_, '_>) -> Result<u64, NoEvent> {
+    fn find_size(&mut self, said: &Packet<'_, '_>) -> Result<PacketSize, NoEvent> {
         self.sizes.see(said)?;
         match self.sizes.find(said)? {
             Some(found) => {
                 self.has_found_sizes = true;
-                Ok(found.bytes)
+                Ok(found.size)
             }
             None => Err(NoEvent::Unread(NoValue::Missing(Key::Length))),
         }

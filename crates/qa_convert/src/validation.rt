@@ -1,5 +1,6 @@
 //! How long a server is silent that may not send, since the client's address is not validated.
 use crate::packet::LoggedPacket;
+use crate::size::PacketSize;
 use crate::sizes::length_of_hex;
 use qa_base::{Role, Space};
 use qa_qlog::{Packet, PacketType};
@@ -29,6 +30,14 @@ pub(crate) struct Validation {
     sent: u64,
     /// When the last ack-eliciting packet was sent, or a timer expired.
     last: Option<u64>,
+}
+
+/// The bytes of a size; 0 if there is none.
+fn bytes_of(size: Option<PacketSize>) -> u64 {
+    match size {
+        Some(size) => size.get(),
+        None => 0,
+    }
 }
 
 impl Validation {
@@ -76,7 +85,7 @@ impl Validation {
         } else {
             0
         };
-        let size = packet.size.unwrap_or(0).max(least);
+        let size = bytes_of(packet.size).max(least);
         self.received = self.received.saturating_add(size);
     }
 
