@@ -53,7 +53,11 @@ impl Known {
         Known {
             logs_timers: dialect.logs_timers.unwrap_or(survey.has_timers),
             settles_sizes: dialect.sizes_by_growth || survey.has_found_sizes,
-            gap: if survey.has_milliseconds { 0 } else { GAP_OF_LOSSES },
+            gap: if survey.has_milliseconds {
+                0
+            } else {
+                GAP_OF_LOSSES
+            },
             delay_exponent: survey.delay_exponent(),
             max_ack_delay: survey.of_peer.max_ack_delay,
             has_cut_times: survey.has_cut_times(),
@@ -144,8 +148,8 @@ impl Conversion {
         let Group { about, beside } = group;
         match about {
             About::Sent(packets) => self.on_sent(packets, &beside),
-            About::Received(packet, lost) => self.on_received(&packet, lost, beside),
-            About::Lost(losses) => self.on_lost(losses, &beside),
+            About::Received(packet, lost) => self.on_received(&packet, lost, &beside),
+            About::Lost(losses) => self.on_lost(losses, beside),
             About::Expired(at, expiry) => self.on_timer(at, expiry, &beside),
             About::Other(event) => self.on_other(&event),
         }
@@ -257,7 +261,8 @@ impl Conversion {
             return Ok(());
         };
         if self.terms.is_window_reported && self.told_window != Some(window) {
-            self.writing.report(time, self.values_at, Values::of_window(window))?;
+            self.writing
+                .report(time, self.values_at, Values::of_window(window))?;
             self.told_window = Some(window);
         }
         Ok(())

@@ -74,3 +74,46 @@ fn greater_of(one: Option<(u64, Flying)>, other: Option<(u64, Flying)>) -> Optio
         (_, other) => other,
     }
 }
+
+/// Packets of a space that left the bytes in flight with no event.
+#[derive(Drop)]
+pub(crate) struct Forgotten {
+    pub(crate) space: Space,
+    /// Their numbers, which rise.
+    pub(crate) numbers: Vec<u64>,
+}
+
+impl Flights {
+    /// A space and its first packets that have just so many bytes together, if there are any.
+    pub(crate) fn first_of_sum(
+        &self,
+        alloc: Global,
+        total: u128,
+    ) -> Result<Option<Forgotten>, AllocError> {
+        for space in [Space::Initial, Space::Handshake, Space::App] {
+            if let Some(numbers) = first_of(alloc, self.of(space), total)? {
+                return Ok(Some(Forgotten { space, numbers }));
+            }
+        }
+        Ok(None)
+    }
+}
+
+/// The first packets that have just so many bytes together, if there are any.
+fn first_of(alloc: Global, flight: &Flight, total: u128) -> Result<Option<Vec<u64>>, AllocError> {
+    let mut numbers = Vec::new(alloc);
+    let mut bytes = 0u128;
+    let mut from = 0u64;
+    for _ in 0..MOST_FORGOTTEN {
+        if total <= bytes {
+            break;
+        }
+        let Some((number, packet)) = flight.first_from(from) else {
+            break;
+        };
+        numbers.push(number)?;
+        bytes = bytes.saturating_add(u128::from(packet.size));
+        from = number.saturating_add(1);
+    }
+    Ok(if bytes == total { Some(numbers) } else { None })
+}

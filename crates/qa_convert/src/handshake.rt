@@ -121,7 +121,9 @@ impl Keys {
         let place = self.initial_due.unwrap_or(at.place);
         let time = writing.next_time(at.time)?;
         let space = Space::Initial;
-        writing.output.write(Event::Discard { time, space }, place, place)?;
+        writing
+            .output
+            .write(Event::Discard { time, space }, place, place)?;
         Ok(())
     }
 
@@ -138,7 +140,9 @@ impl Keys {
         }
         let time = writing.next_time(at.time)?;
         let space = Space::Handshake;
-        writing.output.write(Event::Discard { time, space }, at.place, at.place)?;
+        writing
+            .output
+            .write(Event::Discard { time, space }, at.place, at.place)?;
         Ok(())
     }
 
@@ -216,7 +220,10 @@ impl Keys {
             return true;
         }
         let total = self.pending_bytes(writing);
-        let left = writing.flights.bytes().saturating_add(u128::from(change.added));
+        let left = writing
+            .flights
+            .bytes()
+            .saturating_add(u128::from(change.added));
         let reported = u128::from(reported).saturating_add(change.taken);
         left == reported.saturating_add(held) || left == reported.saturating_add(total)
     }
@@ -267,7 +274,11 @@ impl Keys {
         if self.initial_due.is_some() || !self.initial_is_untold {
             return false;
         }
-        let added = if packet.is_in_flight { packet.size.get() } else { 0 };
+        let added = if packet.is_in_flight {
+            packet.size.get()
+        } else {
+            0
+        };
         u128::from(reported) == writing.flights.bytes().saturating_add(u128::from(added))
     }
 

@@ -4,8 +4,8 @@ use crate::event::{At, LostPacket, Report};
 use crate::flight::Flying;
 use crate::flights::Flights;
 use crate::packet::{LoggedAck, LoggedPacket};
-use crate::size::PacketSize;
 use crate::samples::{Measured, Samples};
+use crate::size::PacketSize;
 use qa_base::Space;
 use std::alloc::{AllocError, Global};
 

@@ -12,8 +12,8 @@ ghost use Rattle.qa_qlog.specs.Losses as losses;
 ghost use Rattle.qa_qlog.specs.Packets as said_packets;
 ghost use Rattle.qa_qlog.specs.Packets.{header_of};
 
-use json::{Element, Items};
 use crate::size::PacketSize;
+use json::{Element, Items};
 use qa_base::{PacketNumber, Space, Spans};
 use qa_qlog::{
     Content, FrameType, Key, NoRanges, NoValue, Packet, Unit, ack_delay, acked_ranges, ce_count,

@@ -94,7 +94,10 @@ impl Values {
 
     /// The greater of the latest round-trip time and the smoothed one; 0 if there is none.
     pub(crate) fn greater_rtt(self) -> u64 {
-        self.rtts.latest.unwrap_or(0).max(self.rtts.smoothed.unwrap_or(0))
+        self.rtts
+            .latest
+            .unwrap_or(0)
+            .max(self.rtts.smoothed.unwrap_or(0))
     }
 }
 

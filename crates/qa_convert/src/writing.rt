@@ -1,7 +1,7 @@
 //! Lines as they are written: their times, what was guessed, and what is in flight behind them.
 use crate::bare::Bare;
 use crate::event::At;
-use crate::flights::Flights;
+use crate::flights::{Flights, Forgotten};
 use crate::guess::Guess;
 use crate::noted::NotedFault;
 use crate::notes::Notes;
@@ -9,7 +9,7 @@ use crate::omission::Omission;
 use crate::output::Output;
 use crate::place::Place;
 use crate::values::Values;
-use qa_base::{Event, MetricValues, PerSpace, Space, Ticks, TimeUnit};
+use qa_base::{Event, MetricValues, PacketNumber, PerSpace, Space, Span, Spans, Ticks, TimeUnit};
 use std::alloc::{AllocError, Global};
 use thiserror::Error;
 
@@ -122,7 +122,8 @@ impl Writing {
     ) -> Result<(), NoLine> {
         let time = self.next_time(nanoseconds)?;
         let values = self.in_unit(values);
-        self.output.write(Event::Metrics { time, values }, place, place)?;
+        self.output
+            .write(Event::Metrics { time, values }, place, place)?;
         Ok(())
     }
 
@@ -147,6 +148,22 @@ impl Writing {
         }
     }
 
+    /// Bytes that left with no event: a line that only names the packets.
+    pub(crate) fn forget(&mut self, at: At, forgotten: Forgotten) -> Result<(), NoLine> {
+        let time = self.next_time(at.time)?;
+        let values = self.in_unit(Values::none());
+        let event = Event::Metrics { time, values };
+        let Forgotten { space, numbers } = forgotten;
+        let spans = spans_of(self.alloc, &numbers)?;
+        self.output.write_forgotten(event, at.place, space, &spans)?;
+        for number in &numbers {
+            self.flights.of_mut(space).take(*number);
+        }
+        let count = u64::try_from(numbers.len()).unwrap_or(u64::MAX);
+        self.notes.omit(Omission::LeftFlight, count)?;
+        Ok(())
+    }
+
     /// The line of the Handshake keys.
     pub(crate) fn keys(&mut self, at: At) -> Result<(), NoLine> {
         let time = self.next_time(at.time)?;
@@ -157,7 +174,38 @@ impl Writing {
     /// The line of the confirmed handshake.
     pub(crate) fn confirmed(&mut self, at: At) -> Result<(), NoLine> {
         let time = self.next_time(at.time)?;
-        self.output.write(Event::Confirmed { time }, at.place, at.place)?;
+        self.output
+            .write(Event::Confirmed { time }, at.place, at.place)?;
         Ok(())
     }
+}
+
+/// Numbers that rise, as spans of numbers one behind another; none above 2^62 - 1 is there.
+pub(crate) fn spans_of(alloc: Global, numbers: &[u64]) -> Result<Spans, AllocError> {
+    let mut spans = Spans::new(alloc);
+    let mut open: Option<(u64, u64)> = None;
+    for number in numbers {
+        open = match open {
+            Some((low, high)) if high.checked_add(1) == Some(*number) => Some((low, *number)),
+            Some((low, high)) => {
+                push_span(&mut spans, low, high)?;
+                Some((*number, *number))
+            }
+            None => Some((*number, *number)),
+        };
+    }
+    if let Some((low, high)) = open {
+        push_span(&mut spans, low, high)?;
+    }
+    Ok(spans)
+}
+
+/// Appends a span, if both its ends are packet numbers.
+fn push_span(spans: &mut Spans, low: u64, high: u64) -> Result<(), AllocError> {
+    if let (Some(low), Some(high)) = (PacketNumber::new(low), PacketNumber::new(high)) {
+        if let Some(span) = Span::new(low, high) {
+            spans.push(span)?;
+        }
+    }
+    Ok(())
 }
