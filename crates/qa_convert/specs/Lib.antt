@@ -2,7 +2,9 @@ pub mod Clocks
 pub mod Flights
 pub mod Guesses
 pub mod Packets
+pub mod Orders
 pub mod Outputs
 pub mod OwnKeys
 pub mod Places
 pub mod Rounding
+pub mod Said

@@ -1,13 +1,16 @@
 //! The packets in flight of a packet number space, as the log tells of them.
-ghost use Rattle.std.specs.Prelude.{◌≡◌, ◌≤◌, [], None, OnErr, OnOk, filter, find, not};
+ghost use Rattle.std.specs.Prelude.{◌≡◌, ◌≤◌, [], None, OnErr, OnOk, filter, find, not, true};
 ghost use Rattle.std.specs.Ordering.{nat_cmp};
 ghost use Rattle.std.specs.BTreeMap.{insert_entry};
 ghost use Rattle.qa_base.specs.values.Limits.{max_packet_size};
 ghost use Rattle.qa_convert.specs.Flights.{flying_at, flying_bytes, is_within, without_number};
 
-use qa_base::Span;
+use crate::groups::LostAt;
+use crate::receiving::Loss;
+use crate::rounding::Age;
+use qa_base::{Space, Span, Spans};
 use std::alloc::{AllocError, Global};
-use std::collections::BTreeMap;
+use std::collections::{BTreeMap, BTreeSet};
 use std::marker::Model;
 
 /// A packet that is in flight.
@@ -119,6 +122,67 @@ impl Flight {
             None => None,
             Some((number, packet)) => Some((*number, *packet)),
         }
+    }
+
+    /// Whether there is none.
+    pub fn is_empty(&self) -> bool
+        ensures { result ≡ true → self.now ≡ [] }
+    {
+        self.packets.is_empty()
+    }
+
+    /// The first packet in flight whose number is at least this one, and its number.
+    pub(crate) fn first_from(&self, from: u64) -> Option<(u64, Flying)> {
+        match self.packets.range(from..).next() {
+            None => None,
+            Some((number, packet)) => Some((*number, *packet)),
+        }
+    }
+
+    /// Adds the numbers of those that ranges name.
+    pub(crate) fn add_named(
+        &self,
+        ranges: &Spans,
+        numbers: &mut BTreeSet<u64>,
+    ) -> Result<(), AllocError> {
+        for span in ranges.as_slice() {
+            for (number, _) in self.packets.range(span.lo().get()..=span.hi().get()) {
+                numbers.insert(*number)?;
+            }
+        }
+        Ok(())
+    }
+
+    /// The bytes of those that have these numbers.
+    pub(crate) fn bytes_of(&self, numbers: &BTreeSet<u64>) -> u128 {
+        let mut bytes = 0u128;
+        for number in numbers {
+            if let Some(packet) = self.get(*number) {
+                bytes = bytes.saturating_add(u128::from(packet.size));
+            }
+        }
+        bytes
+    }
+
+    /// Whether one below a number, and not among losses, is younger than the loss delay only by what
+    /// the log cuts off its times.
+    pub(crate) fn has_open(&self, top: u64, loss: Loss, space: Space, lost: &[LostAt]) -> bool {
+        for (number, packet) in self.packets.range(..top) {
+            let age = Age {
+                age: loss.time.saturating_sub(packet.time),
+                rtt: loss.rtt,
+                eighths: loss.eighths,
+            };
+            if age.is_young() {
+                return false;
+            }
+            let is_lost = lost.iter().any(|it| it.lost.space == space
+                && it.lost.number.get() == *number);
+            if age.is_open() && !is_lost {
+                return true;
+            }
+        }
+        false
     }
 
     /// Those that the span names leave. Takes some steps for each of them.

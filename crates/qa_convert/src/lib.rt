@@ -2,20 +2,43 @@
 //! where in the log they are from and what was guessed.
 #![tactic(auto)]
 
+mod bare;
 mod clock;
+mod conversion;
 mod dialects;
+mod event;
 mod flight;
+mod flights;
+mod groups;
 mod guess;
+mod handshake;
 mod law;
+mod looking;
+mod losing;
 mod noted;
+mod notes;
+mod omission;
+mod order;
 mod output;
 mod own;
 mod packet;
 mod place;
+mod receiving;
 mod rounding;
+mod samples;
+mod sending;
+mod size;
+mod sizes;
+mod survey;
+mod validation;
+mod values;
+mod writing;
 
 pub use clock::Clock;
 pub use dialects::{Absent, Dialect, GENERIC, Limited, dialect_named, dialect_of};
+pub use event::{
+    At, Expiry, LoggedEvent, LostPacket, PeerParameters, RecoveryParameters, Report, Said,
+};
 pub use flight::{Flight, Flying};
 pub use guess::{Guess, put_guesses};
 pub use law::{own_keys_are_passed_over, written_lines_are_read};
@@ -24,3 +47,4 @@ pub use own::{OwnKey, OwnKeys, put_text};
 pub use packet::{LoggedAck, LoggedPacket, NoEvent};
 pub use place::{Place, Stretch, put_stretch};
 pub use rounding::{Age, Delays, Estimate, Reports, Sample};
+pub use size::PacketSize;

@@ -6,14 +6,15 @@ ghost use Rattle.qa_convert.specs.Outputs.{with_guess};
 ghost use Rattle.qa_convert.specs.Guesses.{is_guess};
 ghost use Rattle.std.specs.List.{list_any};
 ghost use Rattle.qa_convert.specs.OwnKeys.{AreOwn, noted};
+ghost use Rattle.serde_json.specs.Data.{Members};
 ghost use Rattle.serde_json.specs.View.{members_view};
 ghost use Rattle.qa_format.specs.declared.line.Line.TheVariants as lines;
 
 use crate::guess::{Guess, put_guesses};
 use crate::noted::{NotedFault, push_noted};
-use crate::own::OwnKeys;
+use crate::own::{OwnKey, OwnKeys, put_ranges, put_text};
 use crate::place::{Place, Stretch, put_stretch};
-use qa_base::{Event, TimeUnit};
+use qa_base::{Event, Space, Spans, TimeUnit};
 use qa_format::Line;
 use std::alloc::{AllocError, Global};
 
@@ -103,6 +104,56 @@ impl Output {
         push_noted(self.alloc, &Line::Event(event), own, &mut self.text)?;
         self.guesses.clear();
         Ok(())
+    }
+
+    /// Writes the line of an event that no record says: packets left the bytes in flight. The line
+    /// names them.
+    ///
+    /// Asks for an event that fits (`Event::fits`). `TooLong` comes if the line is too long, and
+    /// leaves the text. After `OutOfMemory` it is of no use.
+    pub(crate) fn write_forgotten(
+        &mut self,
+        event: Event,
+        place: Place,
+        space: Space,
+        numbers: &Spans,
+    ) -> Result<(), NotedFault>
+        requires { fits event ≡ true }
+        ensures ok { OnOk result ((own : Members) × AreOwn own × (self.new.text.items
+            ≡ self.old.text.items ++ (noted (lines.Event event) own ++ 10 ∷ []))) }
+        ensures unit { self.new.unit ≡ self.old.unit }
+        ensures places { self.new.has_places ≡ self.old.has_places }
+    {
+        let own = self.forgotten_keys(place, space, numbers)?;
+        push_noted(self.alloc, &Line::Event(event), own, &mut self.text)?;
+        self.guesses.clear();
+        Ok(())
+    }
+
+    /// The own keys of a line that names packets that left the bytes in flight.
+    fn forgotten_keys(
+        &self,
+        place: Place,
+        space: Space,
+        numbers: &Spans,
+    ) -> Result<OwnKeys, AllocError>
+        ensures own { IfOk result (λ own. AreOwn (members_view own.entries)) }
+    {
+        let mut own = OwnKeys::new(self.alloc);
+        put_ranges(&mut own, self.alloc, OwnKey::Forgot, numbers)?;
+        if !self.guesses.is_empty() {
+            put_guesses(&mut own, self.alloc, &self.guesses)?;
+        }
+        if self.has_places {
+            let stretch = Stretch {
+                first: place,
+                last: place,
+                is_guess: true,
+            };
+            put_stretch(&mut own, self.alloc, stretch)?;
+        }
+        put_text(&mut own, self.alloc, OwnKey::Space, space.name())?;
+        Ok(own)
     }
 
     /// The own keys of the next line.

@@ -1,10 +1,13 @@
 //! The keys that a line has beside those of its table.
 ghost use Rattle.std.specs.Prelude.{◌≡◌, OnErr, OnOk, true};
-ghost use Rattle.serde_json.specs.Data.{put, string};
+ghost use Rattle.serde_json.specs.Data.{array, put, string};
 ghost use Rattle.serde_json.specs.View.{members_view};
 ghost use Rattle.qa_convert.specs.OwnKeys.{AreOwn, own_key_name};
 ghost use Rattle.qa_format.specs.format.Simple.{is_ascii};
+ghost use Rattle.qa_format.specs.format.Written.{integer_pairs};
 
+use qa_base::Spans;
+use qa_trace::ranges_list;
 use serde_json::{Map, Value};
 use std::alloc::{AllocError, Global};
 
@@ -61,4 +64,23 @@ pub fn put_text(
 {
     let value = Value::try_from_str(alloc, text)?;
     serde_json::put(keys, alloc, key.name(), value)
+}
+
+/// Puts a list of ranges at a key. `AllocError` comes if it is out of memory, and leaves the keys as
+/// they were.
+pub fn put_ranges(
+    keys: &mut OwnKeys,
+    alloc: Global,
+    key: OwnKey,
+    ranges: &Spans,
+) -> Result<(), AllocError>
+    requires own { AreOwn (members_view keys.old.entries) }
+    ensures ok { OnOk result (members_view keys.new.entries
+        ≡ put (own_key_name key) (array (integer_pairs ranges.now))
+        (members_view keys.old.entries)) }
+    ensures err { OnErr result (keys.new.entries ≡ keys.old.entries) }
+    ensures own { AreOwn (members_view keys.new.entries) }
+{
+    let list = ranges_list(alloc, ranges)?;
+    serde_json::put(keys, alloc, key.name(), list)
 }

@@ -8,11 +8,15 @@ ghost use Rattle.qa_convert.specs.Packets.{AreAcksOf, GivesPacket, IsAckOf, Keep
 ghost use Rattle.qa_convert.specs.declared.packet.LoggedAck.{LoggedAck as Kept};
 ghost use Rattle.qa_qlog.specs.Frames as frames;
 ghost use Rattle.qa_qlog.specs.Frames.{listed};
+ghost use Rattle.qa_qlog.specs.Losses as losses;
+ghost use Rattle.qa_qlog.specs.Packets as said_packets;
+ghost use Rattle.qa_qlog.specs.Packets.{header_of};
 
+use crate::size::PacketSize;
 use json::{Element, Items};
-use qa_base::{Space, Spans};
+use qa_base::{PacketNumber, Space, Spans};
 use qa_qlog::{
-    Content, FrameType, NoRanges, NoValue, Packet, Unit, ack_delay, acked_ranges, ce_count,
+    Content, FrameType, Key, NoRanges, NoValue, Packet, Unit, ack_delay, acked_ranges, ce_count,
     frame_type, is_probe,
 };
 use std::alloc::{AllocError, Global};
@@ -24,6 +28,9 @@ pub enum NoEvent {
     /// It does not say what it has to.
     #[error("{0}")]
     Unread(NoValue),
+    /// It is a lost packet of no type.
+    #[error("no packet_type, so it does not say of which space the packet is")]
+    NoPacketType,
     /// Out of memory.
     #[error("out of memory")]
     OutOfMemory,
@@ -77,9 +84,13 @@ pub struct LoggedPacket {
     /// Its space.
     pub space: Space,
     /// Its number.
-    pub number: u64,
-    /// Its size in bytes, if the log has it.
-    pub size: Option<u64>,
+    pub number: PacketNumber,
+    /// Its size, if the log has it, or something else that it has says it.
+    pub size: Option<PacketSize>,
+    /// Whether something else said it.
+    pub is_size_guessed: bool,
+    /// Whether it leaves a byte free that was kept for a PING (see `Sizes`).
+    pub keeps_room: bool,
     /// What its frames make of it.
     pub content: Content,
     /// Whether it says that a probe timeout sent it.
@@ -99,18 +110,33 @@ impl LoggedPacket {
         ensures { (d : Option Json) → Finds object.entry d → IfOk result (GivesPacket unit d) }
     {
         let is_probe = is_probe(&object);
-        let packet = Packet::of(object);
-        let Some(space) = space_of(&packet) else {
+        LoggedPacket::in_packet(alloc, &Packet::of(object), is_probe, unit)
+    }
+
+    /// The packet; None if it is of no space.
+    pub(crate) fn in_packet(
+        alloc: Global,
+        packet: &Packet<'_, '_>,
+        is_probe: bool,
+        unit: Unit,
+    ) -> Result<Option<LoggedPacket>, NoEvent>
+        ensures { (d : Option Json) → Finds packet.now.object d
+            → Finds packet.now.header (header_of d) → is_probe ≡ losses.is_probe d
+            → IfOk result (GivesPacket unit d) }
+    {
+        let Some(space) = space_of(packet) else {
             return Ok(None);
         };
-        let number = packet.number()?;
-        let size = packet.size()?;
-        let content = content_of(&packet)?;
-        let acks = acks_of(alloc, &packet, unit)?;
+        let number = number_of(packet)?;
+        let size = size_of(packet)?;
+        let content = content_of(packet)?;
+        let acks = acks_of(alloc, packet, unit)?;
         Ok(Some(LoggedPacket {
             space,
             number,
             size,
+            is_size_guessed: false,
+            keeps_room: false,
             content,
             is_probe,
             acks,
@@ -126,6 +152,29 @@ fn space_of(packet: &Packet<'_, '_>) -> Option<Space>
     match packet.packet_type() {
         Some(kind) => kind.space(),
         None => None,
+    }
+}
+
+/// The number of a packet.
+pub(crate) fn number_of(packet: &Packet<'_, '_>) -> Result<PacketNumber, NoValue>
+    ensures { (h d : Option Json) → Finds packet.now.header h → Finds packet.now.object d
+        → IfOk result (λ number. said_packets.number h d ≡ Ok number) }
+{
+    let number = packet.number()?;
+    PacketNumber::new(number).ok_or(NoValue::OutOfRange(Key::PacketNumber))
+}
+
+/// The size of a packet, if its record has it.
+fn size_of(packet: &Packet<'_, '_>) -> Result<Option<PacketSize>, NoValue>
+    ensures { (h d : Option Json) → Finds packet.now.header h → Finds packet.now.object d
+        → IfOk result (λ size. said_packets.size h d ≡ Ok size) }
+{
+    match packet.size()? {
+        None => Ok(None),
+        Some(bytes) => match PacketSize::new(bytes) {
+            Some(size) => Ok(Some(size)),
+            None => Err(NoValue::OutOfRange(Key::Length)),
+        },
     }
 }
 

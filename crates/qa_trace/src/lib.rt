@@ -14,4 +14,4 @@ pub use qa_base::{
 };
 pub use qa_format::{Fault, Line};
 pub use qa_read::{LineFault, SplitFault, Splitter, read_line};
-pub use writer::write_line;
+pub use writer::{ranges_list, write_line};

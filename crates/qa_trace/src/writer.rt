@@ -303,8 +303,9 @@ fn put_ranges(map: &mut Map<String, Value>, alloc: Global, ranges: &Spans) -> Re
     serde_json::put(map, alloc, Key::Ranges.name(), list)
 }
 
-/// The list of the ranges, each the list of its least and its greatest number.
-fn ranges_list(alloc: Global, ranges: &Spans) -> Result<Value, AllocError>
+/// The list of the ranges, each the list of its least and its greatest number, as the lines of a
+/// trace have it. `AllocError` comes if it is out of memory.
+pub fn ranges_list(alloc: Global, ranges: &Spans) -> Result<Value, AllocError>
     ensures list { IfOk result (λ v. view v ≡ json.array (integer_pairs ranges.now)) }
     ensures are_ranges { OnOk result (AllByRecursion IsRange ranges.now) }
 {

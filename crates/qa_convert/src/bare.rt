@@ -1,0 +1,43 @@
+//! The last packets of a space that were sent and are not in flight.
+use std::alloc::{AllocError, Global};
+use std::collections::{BTreeSet, VecDeque};
+
+/// How many are kept.
+const KEPT: usize = 4_096;
+
+/// The last packets of a space that were sent and are not in flight.
+#[derive(Drop)]
+pub(crate) struct Bare {
+    numbers: BTreeSet<u64>,
+    /// The same, in the order in which they were sent.
+    order: VecDeque<u64>,
+}
+
+impl Bare {
+    /// None. Takes no memory.
+    pub(crate) fn new(alloc: Global) -> Bare {
+        Bare {
+            numbers: BTreeSet::new(alloc),
+            order: VecDeque::new(alloc),
+        }
+    }
+
+    /// A packet was sent.
+    pub(crate) fn add(&mut self, number: u64) -> Result<(), AllocError> {
+        if !self.numbers.insert(number)? {
+            return Ok(());
+        }
+        self.order.push_back(number)?;
+        if KEPT < self.order.len() {
+            if let Some(first) = self.order.pop_front() {
+                self.numbers.remove(&first);
+            }
+        }
+        Ok(())
+    }
+
+    /// Whether it is one of them.
+    pub(crate) fn has(&self, number: u64) -> bool {
+        self.numbers.contains(&number)
+    }
+}

@@ -1,0 +1,496 @@
+//! Events that belong together: a packet or a timer, and what the log says of it beside it.
+use crate::dialects::Dialect;
+use crate::event::{At, Expiry, LoggedEvent, LostPacket, Said};
+use crate::packet::LoggedPacket;
+use qa_base::Space;
+use std::alloc::{AllocError, Global};
+use std::collections::VecDeque;
+
+/// A packet, and where and when its record is.
+#[derive(Drop)]
+pub(crate) struct PacketAt {
+    pub(crate) at: At,
+    pub(crate) packet: LoggedPacket,
+}
+
+/// A loss, and where and when its record is.
+#[derive(Clone, Copy)]
+pub(crate) struct LostAt {
+    pub(crate) at: At,
+    pub(crate) lost: LostPacket,
+}
+
+/// What a group is about.
+#[derive(Drop)]
+pub(crate) enum About {
+    /// Packets that were sent: those of a datagram, or of several.
+    Sent(Vec<PacketAt>),
+    /// A packet that came, and the losses in front of it.
+    Received(PacketAt, Vec<LostAt>),
+    /// Losses.
+    Lost(Vec<LostAt>),
+    /// A loss detection timer that expired.
+    Expired(At, Expiry),
+    /// Any other event.
+    Other(LoggedEvent),
+}
+
+/// Events that belong together.
+#[derive(Drop)]
+pub(crate) struct Group {
+    pub(crate) about: About,
+    /// What the log says beside it: reports, states, losses.
+    pub(crate) beside: Vec<LoggedEvent>,
+}
+
+/// Which events a group takes beside what it is about.
+#[derive(Clone, Copy, PartialEq, Eq)]
+enum Takes {
+    /// None.
+    Nothing,
+    /// Reports that can be read.
+    Reports,
+    /// These and losses.
+    ReportsAndLosses,
+    /// Reports, states, and timers that are set.
+    OfSent,
+    /// These and losses.
+    All,
+}
+
+/// A group that may go on.
+#[derive(Drop)]
+struct Open {
+    group: Group,
+    takes: Takes,
+}
+
+/// The groups of a log, up to the packet that closes the connection.
+///
+/// What a connection does once it is closing is no part of loss recovery, and neither is the packet
+/// by which it closes: it may be sent whatever the window is.
+#[derive(Drop)]
+pub(crate) struct Groups {
+    alloc: Global,
+    dialect: Dialect,
+    open: Option<Open>,
+    /// A report that may be of the packet behind it.
+    report: Option<LoggedEvent>,
+    /// The last group that ended: if the log is torn off behind it, part of it is missing.
+    last: Option<Group>,
+    is_closed: bool,
+}
+
+impl Takes {
+    /// Whether it takes this event.
+    fn has(self, said: &Said) -> bool {
+        match said {
+            Said::Report(_) => self != Takes::Nothing,
+            Said::State(_) => self.has_states(),
+            Said::UnreadReport => self.has_states(),
+            Said::TimerSet => self.has_states(),
+            Said::Lost(_) => self.has_losses(),
+            Said::OtherLost => self.has_losses(),
+            _ => false,
+        }
+    }
+
+    /// Whether it takes states, and timers that are set.
+    fn has_states(self) -> bool {
+        self == Takes::OfSent || self == Takes::All
+    }
+
+    /// Whether it takes losses.
+    fn has_losses(self) -> bool {
+        self == Takes::ReportsAndLosses || self == Takes::All
+    }
+}
+
+impl LoggedPacket {
+    /// Whether it says or shows that a probe timeout sent it.
+    pub(crate) fn shows_probe(&self) -> bool {
+        self.is_probe || self.keeps_room
+    }
+
+    /// Whether it is an Initial or Handshake packet with a PING: one of 1-RTT may be that of a
+    /// program, or keep the connection alive.
+    pub(crate) fn has_ping_of_handshake(&self) -> bool {
+        self.space != Space::App && self.content.has_ping
+    }
+}
+
+impl Groups {
+    /// Before the first event. Takes no memory.
+    pub(crate) fn new(alloc: Global, dialect: Dialect) -> Groups {
+        Groups {
+            alloc,
+            dialect,
+            open: None,
+            report: None,
+            last: None,
+            is_closed: false,
+        }
+    }
+
+    /// Takes the next event, and appends the groups that are complete. After `AllocError` it is of
+    /// no use.
+    pub(crate) fn push(
+        &mut self,
+        event: LoggedEvent,
+        out: &mut VecDeque<Group>,
+    ) -> Result<(), AllocError> {
+        if !self.dialect.metrics_stand_before {
+            return self.take(event, out);
+        }
+        match self.report.take() {
+            None => self.keep_report(event, out),
+            Some(report) => self.behind_report(report, event, out),
+        }
+    }
+
+    /// Takes an event, but for a report, which may be of the packet behind it.
+    fn keep_report(
+        &mut self,
+        event: LoggedEvent,
+        out: &mut VecDeque<Group>,
+    ) -> Result<(), AllocError> {
+        if matches!(&event.said, Said::Report(_)) {
+            self.report = Some(event);
+            return Ok(());
+        }
+        self.take(event, out)
+    }
+
+    /// Takes a report and the event behind it: those of a packet are a group.
+    fn behind_report(
+        &mut self,
+        report: LoggedEvent,
+        event: LoggedEvent,
+        out: &mut VecDeque<Group>,
+    ) -> Result<(), AllocError> {
+        let LoggedEvent { at, said } = event;
+        match said {
+            Said::Sent(packet) => {
+                self.close(out)?;
+                self.begin_reported(report, PacketAt { at, packet })
+            }
+            said => {
+                self.take(report, out)?;
+                self.keep_report(LoggedEvent { at, said }, out)
+            }
+        }
+    }
+
+    /// Begins the group of a packet whose report is in front of it.
+    fn begin_reported(&mut self, report: LoggedEvent, packet: PacketAt) -> Result<(), AllocError> {
+        if self.is_closed {
+            return Ok(());
+        }
+        let mut packets = Vec::new(self.alloc);
+        packets.push(packet)?;
+        let mut beside = Vec::new(self.alloc);
+        beside.push(report)?;
+        self.open = Some(Open {
+            group: Group {
+                about: About::Sent(packets),
+                beside,
+            },
+            takes: Takes::Nothing,
+        });
+        Ok(())
+    }
+
+    /// Takes an event: the open group goes on with it, or it begins one.
+    fn take(&mut self, event: LoggedEvent, out: &mut VecDeque<Group>) -> Result<(), AllocError> {
+        if self.is_closed {
+            return Ok(());
+        }
+        let Some(open) = self.open.take() else {
+            return self.begin(event);
+        };
+        match open.with(event, &self.dialect)? {
+            Next::Open(open) => {
+                self.open = Some(open);
+                Ok(())
+            }
+            Next::Other(open, event) => {
+                self.finish(open.group, out)?;
+                self.begin(event)
+            }
+        }
+    }
+
+    /// Begins a group with an event.
+    fn begin(&mut self, event: LoggedEvent) -> Result<(), AllocError> {
+        if self.is_closed {
+            return Ok(());
+        }
+        let takes = takes_of(&event.said, &self.dialect);
+        let about = about_of(self.alloc, event)?;
+        self.open = Some(Open {
+            group: Group {
+                about,
+                beside: Vec::new(self.alloc),
+            },
+            takes,
+        });
+        Ok(())
+    }
+
+    /// The open group is complete, if there is one.
+    fn close(&mut self, out: &mut VecDeque<Group>) -> Result<(), AllocError> {
+        match self.open.take() {
+            None => Ok(()),
+            Some(open) => self.finish(open.group, out),
+        }
+    }
+
+    /// A group is complete: the one before it is appended. Of packets that were sent only those
+    /// before the one that closes are kept.
+    fn finish(&mut self, group: Group, out: &mut VecDeque<Group>) -> Result<(), AllocError> {
+        let kept = if group.closes() {
+            self.is_closed = true;
+            group.before_closing(self.alloc)?
+        } else {
+            Some(group)
+        };
+        let Some(kept) = kept else {
+            return Ok(());
+        };
+        match self.last.replace(kept) {
+            None => Ok(()),
+            Some(last) => {
+                out.push_back(last)?;
+                Ok(())
+            }
+        }
+    }
+
+    /// The log ends. If it is torn off, more may have followed of the last group.
+    pub(crate) fn end(
+        &mut self,
+        is_torn: bool,
+        out: &mut VecDeque<Group>,
+    ) -> Result<(), AllocError> {
+        if let Some(report) = self.report.take() {
+            self.take(report, out)?;
+        }
+        self.close(out)?;
+        let Some(last) = self.last.take() else {
+            return Ok(());
+        };
+        if !is_torn || self.is_closed {
+            out.push_back(last)?;
+        } else if let Some(kept) = last.without_end(self.alloc) {
+            out.push_back(kept)?;
+        }
+        Ok(())
+    }
+}
+
+/// What became of an open group and an event.
+enum Next {
+    /// It goes on with the event.
+    Open(Open),
+    /// The event is of another group.
+    Other(Open, LoggedEvent),
+}
+
+impl Open {
+    /// Goes on with an event, if it is of the group.
+    fn with(self, event: LoggedEvent, dialect: &Dialect) -> Result<Next, AllocError> {
+        if self.takes.has(&event.said) {
+            let mut open = self;
+            open.group.beside.push(event)?;
+            return Ok(Next::Open(open));
+        }
+        let LoggedEvent { at, said } = event;
+        match said {
+            Said::Sent(packet) => self.with_sent(PacketAt { at, packet }, dialect),
+            Said::Lost(lost) => self.with_lost(LostAt { at, lost }, dialect),
+            Said::Received(packet) => self.with_received(PacketAt { at, packet }, dialect),
+            said => Ok(Next::Other(self, LoggedEvent { at, said })),
+        }
+    }
+
+    /// Goes on with a packet that was sent, if it may be of the same datagram: it is in front of
+    /// the reports, and may not be that of a probe timeout.
+    fn with_sent(self, packet: PacketAt, dialect: &Dialect) -> Result<Next, AllocError> {
+        let is_alone = dialect.metrics_stand_before || may_be_probe(&packet.packet, dialect);
+        let mut open = self;
+        if !is_alone && open.group.beside.is_empty() {
+            if let About::Sent(packets) = &mut open.group.about {
+                packets.push(packet)?;
+                return Ok(Next::Open(open));
+            }
+        }
+        Ok(Next::Other(open, packet.sent()))
+    }
+
+    /// Goes on with a loss, if it may be of the same detection, which names packets downwards.
+    fn with_lost(self, lost: LostAt, dialect: &Dialect) -> Result<Next, AllocError> {
+        let mut open = self;
+        if dialect.losses_stand_before {
+            if let About::Lost(losses) = &mut open.group.about {
+                if goes_on(losses, lost.lost) {
+                    losses.push(lost)?;
+                    return Ok(Next::Open(open));
+                }
+            }
+        }
+        Ok(Next::Other(
+            open,
+            LoggedEvent {
+                at: lost.at,
+                said: Said::Lost(lost.lost),
+            },
+        ))
+    }
+
+    /// Goes on with a packet that came, if losses of its space are in front of it.
+    fn with_received(self, packet: PacketAt, dialect: &Dialect) -> Result<Next, AllocError> {
+        let space = packet.packet.space;
+        let Open { group, takes } = self;
+        let Group { about, beside } = group;
+        match about {
+            About::Lost(losses) => {
+                if dialect.losses_stand_before && is_of(&losses, space) {
+                    let about = About::Received(packet, losses);
+                    let group = Group { about, beside };
+                    let takes = Takes::Reports;
+                    return Ok(Next::Open(Open { group, takes }));
+                }
+                let about = About::Lost(losses);
+                let group = Group { about, beside };
+                Ok(Next::Other(Open { group, takes }, packet.received()))
+            }
+            about => {
+                let group = Group { about, beside };
+                Ok(Next::Other(Open { group, takes }, packet.received()))
+            }
+        }
+    }
+}
+
+impl PacketAt {
+    /// The event that it was sent.
+    fn sent(self) -> LoggedEvent {
+        let PacketAt { at, packet } = self;
+        let said = Said::Sent(packet);
+        LoggedEvent { at, said }
+    }
+
+    /// The event that it came.
+    fn received(self) -> LoggedEvent {
+        let PacketAt { at, packet } = self;
+        let said = Said::Received(packet);
+        LoggedEvent { at, said }
+    }
+}
+
+/// Whether a packet may be that of a probe timeout.
+fn may_be_probe(packet: &LoggedPacket, dialect: &Dialect) -> bool {
+    packet.shows_probe() || (dialect.probes_by_room && packet.has_ping_of_handshake())
+}
+
+/// Whether a loss is of the same detection as those before it.
+fn goes_on(losses: &[LostAt], lost: LostPacket) -> bool {
+    match losses.last() {
+        Some(last) => last.lost.space == lost.space && lost.number < last.lost.number,
+        None => false,
+    }
+}
+
+/// Whether losses are of a space.
+fn is_of(losses: &[LostAt], space: Space) -> bool {
+    match losses.first() {
+        Some(first) => first.lost.space == space,
+        None => false,
+    }
+}
+
+/// What a group takes beside an event.
+fn takes_of(said: &Said, dialect: &Dialect) -> Takes {
+    match said {
+        Said::Sent(_) if !dialect.metrics_stand_before => Takes::OfSent,
+        Said::Received(_) if dialect.losses_stand_before => Takes::OfSent,
+        Said::Received(_) => Takes::All,
+        Said::Lost(_) if !dialect.losses_stand_before => Takes::ReportsAndLosses,
+        Said::Expired(_) => Takes::All,
+        _ => Takes::Nothing,
+    }
+}
+
+/// What the group is about that begins with an event.
+fn about_of(alloc: Global, event: LoggedEvent) -> Result<About, AllocError> {
+    let LoggedEvent { at, said } = event;
+    match said {
+        Said::Sent(packet) => {
+            let mut packets = Vec::new(alloc);
+            packets.push(PacketAt { at, packet })?;
+            Ok(About::Sent(packets))
+        }
+        Said::Received(packet) => Ok(About::Received(PacketAt { at, packet }, Vec::new(alloc))),
+        Said::Lost(lost) => {
+            let mut losses = Vec::new(alloc);
+            losses.push(LostAt { at, lost })?;
+            Ok(About::Lost(losses))
+        }
+        Said::Expired(expiry) => Ok(About::Expired(at, expiry)),
+        said => Ok(About::Other(LoggedEvent { at, said })),
+    }
+}
+
+impl Group {
+    /// Whether a packet of it closes the connection.
+    fn closes(&self) -> bool {
+        match &self.about {
+            About::Sent(packets) => packets.iter().any(|packet| packet.packet.content.closes),
+            About::Received(packet, _) => packet.packet.content.closes,
+            _ => false,
+        }
+    }
+
+    /// The packets before the one by which the connection closes, without what was said then, if
+    /// there are any; a packet that came, as it is.
+    fn before_closing(self, alloc: Global) -> Result<Option<Group>, AllocError> {
+        let Group { about, beside } = self;
+        match about {
+            About::Sent(packets) => {
+                let kept = packets_before(alloc, packets)?;
+                if kept.is_empty() {
+                    return Ok(None);
+                }
+                let about = About::Sent(kept);
+                let beside = Vec::new(alloc);
+                Ok(Some(Group { about, beside }))
+            }
+            about => Ok(Some(Group { about, beside })),
+        }
+    }
+
+    /// What is sure of the last group of a torn log, of which more may have followed.
+    fn without_end(self, alloc: Global) -> Option<Group> {
+        let Group { about, .. } = self;
+        match about {
+            About::Sent(packets) => {
+                let about = About::Sent(packets);
+                let beside = Vec::new(alloc);
+                Some(Group { about, beside })
+            }
+            _ => None,
+        }
+    }
+}
+
+/// The packets before the first by which the connection closes.
+fn packets_before(alloc: Global, packets: Vec<PacketAt>) -> Result<Vec<PacketAt>, AllocError> {
+    let mut kept = Vec::new(alloc);
+    for packet in packets {
+        if packet.packet.content.closes {
+            return Ok(kept);
+        }
+        kept.push(packet)?;
+    }
+    Ok(kept)
+}

@@ -1,0 +1,321 @@
+//! Keys of the handshake: when they come, when they go, and when the handshake is confirmed.
+//!
+//! If the log tells of no discard, a client drops the Initial keys with its first Handshake packet
+//! and the Handshake keys when HANDSHAKE_DONE comes (RFC 9001, section 4.9). A server drops them
+//! with the first Handshake packet that comes, and at the end of the handshake, each at the event
+//! behind which the reported bytes in flight have lost those of the space.
+use crate::event::At;
+use crate::guess::Guess;
+use crate::packet::LoggedPacket;
+use crate::place::Place;
+use crate::size::PacketSize;
+use crate::survey::Survey;
+use crate::writing::{NoLine, Writing};
+use qa_base::{Event, Role, Space};
+
+/// Which keys are there and which are gone.
+#[derive(Clone, Copy)]
+pub(crate) struct Keys {
+    is_client: bool,
+    pub(crate) is_confirmed: bool,
+    pub(crate) has_keys: bool,
+    initial_is_gone: bool,
+    handshake_is_gone: bool,
+    /// Where the log says that a client's Initial keys are gone, in front of its first Handshake
+    /// packet: they are gone once the Initial packet of the same datagram is logged.
+    initial_due: Option<Place>,
+    has_sent: bool,
+    /// Whether the log tells of no discard.
+    initial_is_untold: bool,
+    handshake_is_untold: bool,
+    /// Discards that are due once the bytes in flight show them: that of Initial comes first.
+    initial_is_pending: bool,
+    handshake_is_pending: bool,
+}
+
+/// The records that make discards due.
+#[derive(Clone, Copy)]
+pub(crate) struct Turns {
+    pub(crate) first_handshake_received: Option<u64>,
+    pub(crate) last_crypto_before_done: Option<u64>,
+    pub(crate) has_done: bool,
+}
+
+impl Turns {
+    /// Those of a log.
+    pub(crate) fn of(survey: &Survey) -> Turns {
+        Turns {
+            first_handshake_received: survey.first_handshake_received,
+            last_crypto_before_done: survey.last_crypto_before_done,
+            has_done: survey.handshake_done.is_some(),
+        }
+    }
+}
+
+impl Keys {
+    /// At the beginning of a log.
+    pub(crate) fn new(role: Role, survey: &Survey) -> Keys {
+        Keys {
+            is_client: role == Role::Client,
+            is_confirmed: false,
+            has_keys: false,
+            initial_is_gone: false,
+            handshake_is_gone: false,
+            initial_due: None,
+            has_sent: false,
+            initial_is_untold: !survey.retired.initial,
+            handshake_is_untold: !survey.retired.handshake,
+            initial_is_pending: false,
+            handshake_is_pending: false,
+        }
+    }
+
+    /// Whether a discard is due once the bytes in flight show it.
+    pub(crate) fn awaits_discard(self) -> bool {
+        self.initial_is_pending || self.handshake_is_pending
+    }
+
+    /// Whether the keys of a space are gone.
+    pub(crate) fn are_gone(self, space: Space) -> bool {
+        match space {
+            Space::Initial => self.initial_is_gone,
+            Space::Handshake => self.handshake_is_gone,
+            Space::App => false,
+        }
+    }
+
+    /// The Handshake keys are there.
+    pub(crate) fn take_keys(&mut self, writing: &mut Writing, at: At) -> Result<(), NoLine> {
+        if self.has_keys {
+            return Ok(());
+        }
+        self.has_keys = true;
+        if self.is_client {
+            writing.keys(at)?;
+        }
+        Ok(())
+    }
+
+    /// The handshake is confirmed.
+    fn confirm(&mut self, writing: &mut Writing, at: At) -> Result<(), NoLine> {
+        if self.is_confirmed {
+            return Ok(());
+        }
+        self.is_confirmed = true;
+        if self.handshake_is_untold {
+            writing.guess(Guess::Confirmed)?;
+        }
+        writing.confirmed(at)
+    }
+
+    /// The Initial keys are gone.
+    pub(crate) fn discard_initial(&mut self, writing: &mut Writing, at: At) -> Result<(), NoLine> {
+        if self.initial_is_gone {
+            return Ok(());
+        }
+        self.initial_is_gone = true;
+        writing.flights.of_mut(Space::Initial).clear();
+        if self.initial_is_untold {
+            writing.guess(Guess::Discard)?;
+        }
+        let place = self.initial_due.unwrap_or(at.place);
+        let time = writing.next_time(at.time)?;
+        let space = Space::Initial;
+        writing
+            .output
+            .write(Event::Discard { time, space }, place, place)?;
+        Ok(())
+    }
+
+    /// The Handshake keys are gone, and the handshake is confirmed.
+    fn discard_handshake(&mut self, writing: &mut Writing, at: At) -> Result<(), NoLine> {
+        if self.handshake_is_gone {
+            return Ok(());
+        }
+        self.confirm(writing, at)?;
+        self.handshake_is_gone = true;
+        writing.flights.of_mut(Space::Handshake).clear();
+        if self.handshake_is_untold {
+            writing.guess(Guess::Discard)?;
+        }
+        let time = writing.next_time(at.time)?;
+        let space = Space::Handshake;
+        writing
+            .output
+            .write(Event::Discard { time, space }, at.place, at.place)?;
+        Ok(())
+    }
+
+    /// The log tells that keys came.
+    pub(crate) fn on_keys_came(
+        &mut self,
+        writing: &mut Writing,
+        at: At,
+        space: Option<Space>,
+    ) -> Result<(), NoLine> {
+        if space == Some(Space::Handshake) {
+            self.take_keys(writing, at)
+        } else {
+            Ok(())
+        }
+    }
+
+    /// The log tells that keys are gone.
+    pub(crate) fn on_keys_gone(
+        &mut self,
+        writing: &mut Writing,
+        at: At,
+        space: Option<Space>,
+    ) -> Result<(), NoLine> {
+        match space {
+            Some(Space::Initial) => {
+                if self.is_client && !self.has_sent {
+                    self.initial_due = Some(at.place);
+                    return Ok(());
+                }
+                self.discard_initial(writing, at)
+            }
+            Some(Space::Handshake) => self.discard_handshake(writing, at),
+            _ => Ok(()),
+        }
+    }
+
+    /// Makes the discards that are due by the bytes in flight that are reported behind an event,
+    /// which itself adds some, or takes some out.
+    pub(crate) fn settle(
+        &mut self,
+        writing: &mut Writing,
+        at: At,
+        reported: Option<u64>,
+        change: Change,
+    ) -> Result<(), NoLine> {
+        if self.initial_is_pending {
+            if !self.is_shown(writing, Space::Initial, reported, change) {
+                return Ok(());
+            }
+            self.initial_is_pending = false;
+            self.discard_initial(writing, at)?;
+        }
+        if self.handshake_is_pending && self.is_shown(writing, Space::Handshake, reported, change) {
+            self.handshake_is_pending = false;
+            self.discard_handshake(writing, at)?;
+        }
+        Ok(())
+    }
+
+    /// Whether the bytes in flight show the discard of a space: they have lost its bytes, or those
+    /// of all discards that are due.
+    fn is_shown(
+        self,
+        writing: &Writing,
+        space: Space,
+        reported: Option<u64>,
+        change: Change,
+    ) -> bool {
+        let held = writing.flights.of(space).bytes();
+        let Some(reported) = reported else {
+            return true;
+        };
+        if held == 0 {
+            return true;
+        }
+        let total = self.pending_bytes(writing);
+        let left = writing
+            .flights
+            .bytes()
+            .saturating_add(u128::from(change.added));
+        let reported = u128::from(reported).saturating_add(change.taken);
+        left == reported.saturating_add(held) || left == reported.saturating_add(total)
+    }
+
+    /// The bytes in flight of all spaces whose discard is due.
+    fn pending_bytes(self, writing: &Writing) -> u128 {
+        let initial = writing.flights.of(Space::Initial).bytes();
+        let handshake = writing.flights.of(Space::Handshake).bytes();
+        match (self.initial_is_pending, self.handshake_is_pending) {
+            (true, true) => initial.saturating_add(handshake),
+            (true, false) => initial,
+            (false, true) => handshake,
+            (false, false) => 0,
+        }
+    }
+
+    /// Makes the discards that a packet shows that is sent; whether that of Initial is due behind
+    /// it.
+    pub(crate) fn before_sent(
+        &mut self,
+        writing: &mut Writing,
+        at: At,
+        packet: &SentPacket<'_>,
+        reported: Option<u64>,
+    ) -> Result<bool, NoLine> {
+        let mut is_late = false;
+        let is_handshake = packet.packet.space == Space::Handshake;
+        if is_handshake && self.is_client && !self.initial_is_gone {
+            is_late = self.is_late(writing, packet, reported);
+            if !is_late && (self.initial_due.is_some() || self.initial_is_untold) {
+                self.discard_initial(writing, at)?;
+            }
+        }
+        self.has_sent = self.has_sent || is_handshake;
+        if packet.packet.content.has_handshake_done && self.handshake_is_untold {
+            self.initial_is_pending = false;
+            self.handshake_is_pending = false;
+            self.discard_handshake(writing, at)?;
+        }
+        Ok(is_late)
+    }
+
+    /// Whether the report behind a Handshake packet still has the bytes of the Initial space.
+    fn is_late(self, writing: &Writing, packet: &SentPacket<'_>, reported: Option<u64>) -> bool {
+        let Some(reported) = reported else {
+            return false;
+        };
+        if self.initial_due.is_some() || !self.initial_is_untold {
+            return false;
+        }
+        let added = if packet.is_in_flight {
+            packet.size.get()
+        } else {
+            0
+        };
+        u128::from(reported) == writing.flights.bytes().saturating_add(u128::from(added))
+    }
+
+    /// A client took in HANDSHAKE_DONE.
+    pub(crate) fn on_done(&mut self, writing: &mut Writing, at: At) -> Result<(), NoLine> {
+        if self.is_client && self.handshake_is_untold {
+            self.discard_handshake(writing, at)?;
+        }
+        Ok(())
+    }
+
+    /// A packet that came may make discards due at a server.
+    pub(crate) fn after_received(&mut self, at: At, turns: Turns) {
+        if self.is_client {
+            return;
+        }
+        if turns.first_handshake_received == Some(at.index) && self.initial_is_untold {
+            self.initial_is_pending = true;
+        }
+        let is_last = turns.last_crypto_before_done == Some(at.index);
+        if is_last && turns.has_done && self.handshake_is_untold {
+            self.handshake_is_pending = true;
+        }
+    }
+}
+
+/// By how many bytes an event itself changes the bytes in flight.
+#[derive(Clone, Copy)]
+pub(crate) struct Change {
+    pub(crate) added: u64,
+    pub(crate) taken: u128,
+}
+
+/// A packet that is sent, with the size that it has by now.
+#[derive(Clone, Copy)]
+pub(crate) struct SentPacket<'p> {
+    pub(crate) packet: &'p LoggedPacket,
+    pub(crate) size: PacketSize,
+    pub(crate) is_in_flight: bool,
+}

@@ -1,0 +1,332 @@
+//! Losses that are declared, and the timers that find them.
+use crate::conversion::{Conversion, LATE_BY_PROGRAM, latest_of};
+use crate::event::{At, Expiry, LoggedEvent, LostPacket, Said};
+use crate::groups::LostAt;
+use crate::guess::Guess;
+use crate::omission::{Limit, Omission};
+use crate::receiving::losses_in;
+use crate::writing::{NoLine, spans_of};
+use qa_base::{Event, PerSpace, Space, TimerKind};
+use std::alloc::{AllocError, Global};
+use std::collections::BTreeSet;
+
+/// The time threshold is in so many parts of the round-trip time.
+const PARTS_OF_RTT: u128 = 8;
+
+impl Conversion {
+    /// Losses with what is said behind them.
+    pub(crate) fn on_lost(
+        &mut self,
+        losses: Vec<LostAt>,
+        beside: Vec<LoggedEvent>,
+    ) -> Result<(), NoLine> {
+        let events = joined(self.writing.alloc, losses, beside)?;
+        if self.known.logs_timers {
+            return self.detected(&events);
+        }
+        self.detections(&events)
+    }
+
+    /// Losses, with what is said among them, by the times at which they were found.
+    pub(crate) fn detections(&mut self, events: &[LoggedEvent]) -> Result<(), NoLine> {
+        let gap = self.known.gap;
+        let mut begun = 0;
+        let mut last: Option<u64> = None;
+        for place in 0..events.len() {
+            if !is_loss(&events[place]) {
+                continue;
+            }
+            let time = events[place].at.time;
+            if let Some(before) = last {
+                if gap < time.saturating_sub(before) && begun <= place {
+                    self.detected(&events[begun..place])?;
+                    begun = place;
+                }
+            }
+            last = Some(time);
+        }
+        if begun < events.len() {
+            self.detected(&events[begun..])?;
+        }
+        Ok(())
+    }
+
+    /// Losses that were found at one time, with what is said among them.
+    fn detected(&mut self, events: &[LoggedEvent]) -> Result<(), NoLine> {
+        let Some(first) = events.first() else {
+            return Ok(());
+        };
+        let at = first.at;
+        let losses = losses_in(self.writing.alloc, events)?;
+        self.lost_alone(at, &losses, events)
+    }
+
+    /// Losses that no acknowledgment shows: those of a timer, if the log has no timers.
+    ///
+    /// The loss timer is set for packets below an acknowledged number alone. Some senders declare
+    /// others lost too, at a probe timeout or when they send again, and for these nothing is in
+    /// front of the line of the losses.
+    pub(crate) fn lost_alone(
+        &mut self,
+        at: At,
+        losses: &[LostAt],
+        beside: &[LoggedEvent],
+    ) -> Result<(), NoLine> {
+        match self.first_in_flight(losses) {
+            Some(first) => self.show(first, losses)?,
+            None => {}
+        }
+        self.after_timer(at, losses, beside)
+    }
+
+    /// Writes the timer that found losses, if one can have.
+    fn show(&mut self, first: LostAt, losses: &[LostAt]) -> Result<(), NoLine> {
+        let LostAt { at, lost } = first;
+        let largest = self.largest.of(lost.space).unwrap_or(0);
+        if self.known.logs_timers || largest <= lost.number.get() {
+            return Ok(self.writing.omit(Omission::LossOfNothing)?);
+        }
+        self.writing.guess(Guess::LossTimer)?;
+        let time = self.moment(at, lost.space, largest, losses)?;
+        self.write_timer(at, TimerKind::Loss, lost.space, time)
+    }
+
+    /// The first loss that is not one of a packet that is not in flight.
+    fn first_in_flight(&self, losses: &[LostAt]) -> Option<LostAt> {
+        for it in losses {
+            if !self.writing.has_bare(it.lost.space, it.lost.number.get()) {
+                return Some(*it);
+            }
+        }
+        None
+    }
+
+    /// A timer expired.
+    pub(crate) fn on_timer(
+        &mut self,
+        at: At,
+        expiry: Expiry,
+        beside: &[LoggedEvent],
+    ) -> Result<(), NoLine> {
+        let losses = losses_in(self.writing.alloc, beside)?;
+        let is_alone = self.first_in_flight(&losses).is_none();
+        let has_losses = beside.iter().any(|event| is_loss(event));
+        let is_counted = beside.iter().any(|event| has_count(event));
+        let kind = match expiry.kind {
+            None if has_losses => Some(TimerKind::Loss),
+            None if is_counted => Some(TimerKind::Pto),
+            kind => kind,
+        };
+        let is_idle = self.known.counts_at_timers && !is_counted;
+        match kind {
+            None => self.writing.omit(Omission::OtherTimer)?,
+            Some(TimerKind::Loss) if is_alone && has_losses => {
+                self.writing.omit(Omission::BareTimer)?
+            }
+            Some(TimerKind::Loss) if is_alone => self.writing.omit(Omission::IdleTimer)?,
+            Some(TimerKind::Pto) if is_alone && is_idle => {
+                self.writing.omit(Omission::IdleTimer)?
+            }
+            Some(kind) => self.expired(at, expiry, kind, &losses)?,
+        }
+        self.after_timer(at, &losses, beside)
+    }
+
+    /// Writes the line of a timer that did something.
+    fn expired(
+        &mut self,
+        at: At,
+        expiry: Expiry,
+        kind: TimerKind,
+        losses: &[LostAt],
+    ) -> Result<(), NoLine> {
+        let found = self.see_first(losses);
+        let space = self.space_of_timer(expiry, kind, found)?;
+        self.write_timer(at, kind, space, at.time)
+    }
+
+    /// Sees how old the first packet in flight is that a loss timer found; its space.
+    fn see_first(&mut self, losses: &[LostAt]) -> Option<Space> {
+        for it in losses {
+            if !self.writing.has_bare(it.lost.space, it.lost.number.get()) {
+                self.see_age(it.at.time, it.lost);
+                return Some(it.lost.space);
+            }
+        }
+        None
+    }
+
+    /// Sees how old the packet is that a loss timer found at a time.
+    fn see_age(&mut self, time: u64, lost: LostPacket) {
+        let rtt = u128::from(self.values.greater_rtt());
+        let sent = self.time_of(lost.space, lost.number.get());
+        if rtt == 0 || sent == 0 {
+            return;
+        }
+        let age = time.saturating_sub(sent);
+        let parts = u128::from(self.terms.dialect.time_threshold_eighths) * rtt;
+        let is_past = parts < PARTS_OF_RTT * u128::from(age.saturating_sub(LATE_BY_PROGRAM));
+        // Loss timers that are all later than 6/5 of the round-trip time go by another threshold.
+        let is_late = 6 * rtt < 5 * u128::from(age) && is_past;
+        self.are_timers_late = Some(is_late && self.are_timers_late != Some(false));
+    }
+
+    /// The space that the log names, else that of what the timer found.
+    fn space_of_timer(
+        &mut self,
+        expiry: Expiry,
+        kind: TimerKind,
+        found: Option<Space>,
+    ) -> Result<Space, AllocError> {
+        if let Some(space) = expiry.space {
+            return Ok(space);
+        }
+        self.writing.guess(Guess::TimerSpace)?;
+        match (kind, found) {
+            (TimerKind::Loss, Some(space)) => Ok(space),
+            _ => Ok(self.probed_space()),
+        }
+    }
+
+    /// The losses that a timer found, if it was one, and the values behind them.
+    fn after_timer(
+        &mut self,
+        at: At,
+        losses: &[LostAt],
+        beside: &[LoggedEvent],
+    ) -> Result<(), NoLine> {
+        self.write_lost(at.time, losses)?;
+        if self.take_beside(beside) {
+            self.report(latest_of(at, beside))?;
+        }
+        Ok(())
+    }
+
+    /// Writes the line of the losses of each space, at a time.
+    pub(crate) fn write_lost(&mut self, time: u64, losses: &[LostAt]) -> Result<(), NoLine> {
+        let kept = self.losses_in_flight(losses)?;
+        if !kept.is_empty() {
+            self.last_loss = Some(time);
+        }
+        let mut written = PerSpace {
+            initial: false,
+            handshake: false,
+            app: false,
+        };
+        for it in &kept {
+            let space = it.lost.space;
+            if !*written.of(space) {
+                *written.of_mut(space) = true;
+                self.write_lost_of(time, space, &kept)?;
+            }
+        }
+        Ok(())
+    }
+
+    /// The losses but for those of packets that are not in flight.
+    fn losses_in_flight(&mut self, losses: &[LostAt]) -> Result<Vec<LostAt>, AllocError> {
+        let mut kept = Vec::new(self.writing.alloc);
+        for it in losses {
+            let number = it.lost.number.get();
+            if self.writing.has_bare(it.lost.space, number) {
+                self.writing.omit(Omission::LossNotInFlight)?;
+                continue;
+            }
+            if self.last_loss == Some(self.time_of(it.lost.space, number)) {
+                self.writing.notes.limit(Limit::SameTick)?;
+            }
+            kept.push(*it)?;
+        }
+        Ok(kept)
+    }
+
+    /// Writes the line of the losses of a space.
+    fn write_lost_of(
+        &mut self,
+        nanoseconds: u64,
+        space: Space,
+        losses: &[LostAt],
+    ) -> Result<(), NoLine> {
+        let numbers = numbers_of(self.writing.alloc, space, losses)?;
+        let (Some(first), Some(last)) = (first_of(space, losses), last_of(space, losses)) else {
+            return Ok(());
+        };
+        let time = self.writing.next_time(nanoseconds)?;
+        let ranges = spans_of(self.writing.alloc, &numbers)?;
+        let event = Event::Lost {
+            time,
+            space,
+            ranges,
+        };
+        if event.fits() {
+            self.writing
+                .output
+                .write(event, first.at.place, last.at.place)?;
+        }
+        for number in &numbers {
+            self.writing.flights.of_mut(space).take(*number);
+        }
+        Ok(())
+    }
+}
+
+/// Losses, and the events behind them.
+fn joined(
+    alloc: Global,
+    losses: Vec<LostAt>,
+    beside: Vec<LoggedEvent>,
+) -> Result<Vec<LoggedEvent>, AllocError> {
+    let mut events = Vec::new(alloc);
+    for it in losses {
+        events.push(LoggedEvent {
+            at: it.at,
+            said: Said::Lost(it.lost),
+        })?;
+    }
+    for event in beside {
+        events.push(event)?;
+    }
+    Ok(events)
+}
+
+/// The numbers of the losses of a space, which rise.
+fn numbers_of(alloc: Global, space: Space, losses: &[LostAt]) -> Result<Vec<u64>, AllocError> {
+    let mut sorted = BTreeSet::new(alloc);
+    for it in losses {
+        if it.lost.space == space {
+            sorted.insert(it.lost.number.get())?;
+        }
+    }
+    let mut numbers = Vec::new(alloc);
+    for number in &sorted {
+        numbers.push(*number)?;
+    }
+    Ok(numbers)
+}
+
+/// The first loss of a space.
+fn first_of(space: Space, losses: &[LostAt]) -> Option<LostAt> {
+    losses.iter().find(|it| it.lost.space == space).copied()
+}
+
+/// The last loss of a space.
+fn last_of(space: Space, losses: &[LostAt]) -> Option<LostAt> {
+    losses
+        .iter()
+        .rev()
+        .find(|it| it.lost.space == space)
+        .copied()
+}
+
+/// Whether an event is a loss, also of a packet of no space.
+fn is_loss(event: &LoggedEvent) -> bool {
+    matches!(&event.said, Said::Lost(_) | Said::OtherLost)
+}
+
+/// Whether an event counts probe timeouts.
+fn has_count(event: &LoggedEvent) -> bool {
+    match &event.said {
+        Said::Report(report) => report.pto_count.is_some(),
+        _ => false,
+    }
+}

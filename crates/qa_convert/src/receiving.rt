@@ -1,0 +1,486 @@
+//! Packets that come, and what their ACK frames say.
+ghost use Rattle.std.specs.Prelude.{◌≤◌, length};
+
+use crate::conversion::{Conversion, LATE_BY_PROGRAM};
+use crate::event::{At, LoggedEvent, LostPacket, Said};
+use crate::groups::{LostAt, PacketAt};
+use crate::guess::Guess;
+use crate::handshake::Change;
+use crate::looking::{top_in, top_of};
+use crate::omission::Omission;
+use crate::packet::{LoggedAck, LoggedPacket};
+use crate::rounding::{Estimate, Reports};
+use crate::values::Values;
+use crate::writing::NoLine;
+use qa_base::{Ack, Event, PerSpace, Space};
+use std::alloc::{AllocError, Global};
+use std::collections::BTreeSet;
+
+/// The packet threshold (RFC 9002, section 6.1.1).
+const PACKET_THRESHOLD: u64 = 3;
+/// The time threshold is in so many parts of the round-trip time.
+const PARTS_OF_RTT: u128 = 8;
+/// How much earlier than the log's a time may be, in nanoseconds: both ends of an age are cut to a
+/// millisecond.
+const EARLIER: u64 = 999_000;
+
+impl Conversion {
+    /// A packet came, with losses in front of it, and what is said behind it.
+    pub(crate) fn on_received(
+        &mut self,
+        packet: &PacketAt,
+        before: Vec<LostAt>,
+        beside: &[LoggedEvent],
+    ) -> Result<(), NoLine> {
+        self.has_come = true;
+        let (beside, later) = beside.split_at(self.shown_part(packet, beside));
+        let lost = self.lost_before(packet, before, beside)?;
+        if packet.packet.space == Space::Handshake {
+            self.keys.take_keys(&mut self.writing, packet.at)?;
+        }
+        let held = self.values;
+        let in_flight = self.writing.flights.bytes();
+        let is_reported = self.take_beside(beside);
+        let lost = if lost.is_empty() {
+            losses_in(self.writing.alloc, beside)?
+        } else {
+            lost
+        };
+        self.write_acks(packet, held, lost)?;
+        if is_reported && self.writing.flights.bytes() < in_flight {
+            self.take_zero();
+        }
+        if packet.packet.content.has_handshake_done {
+            self.keys.on_done(&mut self.writing, packet.at)?;
+        }
+        if is_reported {
+            self.report(latest_report(packet.at.time, beside))?;
+        } else if held != self.values {
+            self.report(packet.at.time)?;
+        }
+        self.keys.after_received(packet.at, self.known.turns);
+        self.detections(later)
+    }
+
+    /// The losses in front of a packet, if it shows them; others are those of a timer.
+    fn lost_before(
+        &mut self,
+        packet: &PacketAt,
+        before: Vec<LostAt>,
+        beside: &[LoggedEvent],
+    ) -> Result<Vec<LostAt>, NoLine> {
+        let Some(first) = before.first() else {
+            return Ok(before);
+        };
+        let at = first.at;
+        if self.is_shown(&before, packet, beside) {
+            return Ok(before);
+        }
+        self.lost_alone(at, &before, &[])?;
+        Ok(Vec::new(self.writing.alloc))
+    }
+
+    /// Writes the lines of the ACK frames of a packet, and of the losses that it shows.
+    fn write_acks(
+        &mut self,
+        packet: &PacketAt,
+        held: Values,
+        lost: Vec<LostAt>,
+    ) -> Result<(), NoLine> {
+        if self.keys.awaits_discard() {
+            self.settle_received(packet, &lost)?;
+        }
+        let mut is_first = true;
+        for ack in &packet.packet.acks {
+            if is_first {
+                self.write_ack(packet, ack, held, &lost)?;
+            } else {
+                self.write_ack(packet, ack, held, &[])?;
+            }
+            is_first = false;
+        }
+        match lost.first() {
+            Some(first) if is_first => self.lost_alone(first.at, &lost, &[]),
+            _ => Ok(()),
+        }
+    }
+
+    /// How much of what is beside a packet is of it, if the log has no timers: up to a loss that no
+    /// acknowledgment of it can show.
+    fn shown_part(&self, packet: &PacketAt, beside: &[LoggedEvent]) -> usize
+        ensures { result ≤ length beside.now }
+    {
+        if self.known.logs_timers {
+            return beside.len();
+        }
+        for (place, event) in beside.iter().enumerate() {
+            let is_shown = match &event.said {
+                Said::Lost(lost) => self.can_be_shown(event.at.time, *lost, packet),
+                Said::OtherLost => false,
+                _ => true,
+            };
+            if !is_shown {
+                return place;
+            }
+        }
+        beside.len()
+    }
+
+    /// Whether a packet can show a loss: by a number that is far enough below, or by its age if it
+    /// was found at the same time.
+    fn can_be_shown(&self, time: u64, lost: LostPacket, packet: &PacketAt) -> bool {
+        if lost.space != packet.packet.space {
+            return false;
+        }
+        let number = lost.number.get();
+        let top = top_of(&packet.packet.acks);
+        let is_far = match top {
+            Some(top) => number.saturating_add(PACKET_THRESHOLD) <= top,
+            None => false,
+        };
+        let late = time.saturating_sub(packet.at.time);
+        if self.known.gap < late && !is_far {
+            return false;
+        }
+        let largest = self.largest.of(lost.space).unwrap_or(0);
+        number < top.unwrap_or(0).max(largest)
+    }
+
+    /// Whether an acknowledgment shows losses, by number or by age at the round-trip time behind it.
+    fn is_shown(&self, lost: &[LostAt], packet: &PacketAt, beside: &[LoggedEvent]) -> bool {
+        let (Some(first), Some(top)) = (lost.first(), top_of(&packet.packet.acks)) else {
+            return false;
+        };
+        let is_below = first.lost.number.get() <= top && packet.at.time == first.at.time;
+        if !is_below
+            || lost
+                .iter()
+                .any(|it| is_acknowledged(&packet.packet, it.lost))
+        {
+            return false;
+        }
+        let parts = u128::from(self.terms.dialect.time_threshold_eighths)
+            * u128::from(rtt_of(beside));
+        for it in lost {
+            let number = it.lost.number.get();
+            if number.saturating_add(PACKET_THRESHOLD) <= top {
+                return true;
+            }
+            let sent = self.time_of(first.lost.space, number);
+            let age = packet.at.time.saturating_sub(sent);
+            if parts <= PARTS_OF_RTT * u128::from(age) {
+                return true;
+            }
+        }
+        false
+    }
+
+    /// When a packet in flight was sent; 0 for another.
+    pub(crate) fn time_of(&self, space: Space, number: u64) -> u64 {
+        match self.writing.flights.of(space).get(number) {
+            Some(packet) => packet.time,
+            None => 0,
+        }
+    }
+
+    /// The discards that are due, by what leaves with an acknowledgment and its losses.
+    fn settle_received(&mut self, packet: &PacketAt, lost: &[LostAt]) -> Result<(), NoLine> {
+        let taken = self.leaving(packet, lost)?;
+        let level = self.values.bytes.in_flight;
+        self.keys.settle(
+            &mut self.writing,
+            packet.at,
+            level,
+            Change { added: 0, taken },
+        )
+    }
+
+    /// The bytes that leave with what a packet acknowledges, and with losses.
+    fn leaving(&self, packet: &PacketAt, lost: &[LostAt]) -> Result<u128, AllocError> {
+        let alloc = self.writing.alloc;
+        let mut gone = PerSpace {
+            initial: BTreeSet::new(alloc),
+            handshake: BTreeSet::new(alloc),
+            app: BTreeSet::new(alloc),
+        };
+        let space = packet.packet.space;
+        for ack in &packet.packet.acks {
+            self.writing
+                .flights
+                .of(space)
+                .add_named(&ack.ranges, gone.of_mut(space))?;
+        }
+        for it in lost {
+            gone.of_mut(it.lost.space).insert(it.lost.number.get())?;
+        }
+        let mut taken = 0u128;
+        for space in [Space::Initial, Space::Handshake, Space::App] {
+            let bytes = self.writing.flights.of(space).bytes_of(gone.of(space));
+            taken = taken.saturating_add(bytes);
+        }
+        Ok(taken)
+    }
+
+    /// Writes the line of an ACK frame, and of the losses that it shows.
+    fn write_ack(
+        &mut self,
+        packet: &PacketAt,
+        ack: &LoggedAck,
+        held: Values,
+        lost: &[LostAt],
+    ) -> Result<(), NoLine> {
+        let space = packet.packet.space;
+        let Some(top) = top_in(ack) else {
+            return Ok(self.writing.omit(Omission::AckOfNothing)?);
+        };
+        if self.keys.are_gone(space) {
+            return Ok(self.writing.omit(Omission::AckOfGoneSpace)?);
+        }
+        let sent = self.writing.flights.of(space).get(top);
+        self.writing.flights.take_named(space, &ack.ranges);
+        let (nanoseconds, delay) = match sent {
+            Some(sent) => self.settled(
+                packet.at,
+                space,
+                top,
+                Answer {
+                    ack,
+                    sent: sent.time,
+                    held,
+                    lost,
+                },
+            )?,
+            None => (
+                self.moment(packet.at, space, top, lost)?,
+                self.delay(space, ack),
+            ),
+        };
+        let app_limited = self.is_limited(held.bytes.window)? && lost.is_empty();
+        let time = self.writing.next_time(nanoseconds)?;
+        let event = Event::Ack(Ack {
+            time,
+            space,
+            ranges: ack.ranges.duplicate(self.writing.alloc)?,
+            delay: self.writing.output.in_unit(delay),
+            app_limited,
+        });
+        if event.fits() {
+            self.writing
+                .output
+                .write(event, packet.at.place, packet.at.place)?;
+        }
+        self.probe.packets = 0;
+        let largest = self.largest.of_mut(space);
+        *largest = Some(top.max(largest.unwrap_or(0)));
+        self.write_lost(packet.at.time, lost)
+    }
+
+    /// When an acknowledgment came whose largest packet was in flight, and its delay, both as the
+    /// reports show them.
+    fn settled(
+        &mut self,
+        at: At,
+        space: Space,
+        top: u64,
+        answer: Answer<'_>,
+    ) -> Result<(u64, u64), AllocError> {
+        let smoothed = self.values.rtts.smoothed.unwrap_or(0);
+        let mut time = at.time;
+        if time.saturating_sub(answer.sent) < smoothed {
+            time = self.moment(at, space, top, answer.lost)?;
+        }
+        let mut delay = self.delay(space, answer.ack);
+        if self.terms.dialect.is_read_late {
+            time = self.arrival(time, answer.sent, delay, answer.held)?;
+        }
+        if self.known.has_cut_times {
+            delay = self.settled_delay(time.saturating_sub(answer.sent), delay, answer.held)?;
+        }
+        Ok((time, delay))
+    }
+
+    /// The time of an acknowledgment or a loss timer, in nanoseconds.
+    ///
+    /// In a log whose times are cut it is part of a millisecond earlier, if a packet that is not
+    /// declared lost then is only by that younger than the loss delay.
+    pub(crate) fn moment(
+        &mut self,
+        at: At,
+        space: Space,
+        top: u64,
+        lost: &[LostAt],
+    ) -> Result<u64, AllocError> {
+        let rtt = self.values.greater_rtt();
+        let Some(earlier) = at.time.checked_sub(EARLIER) else {
+            return Ok(at.time);
+        };
+        if !self.known.has_cut_times || rtt == 0 || !self.writing.may_be(earlier) {
+            return Ok(at.time);
+        }
+        let eighths = self.terms.dialect.time_threshold_eighths;
+        let flight = self.writing.flights.of(space);
+        if !flight.has_open(
+            top,
+            Loss {
+                time: at.time,
+                rtt,
+                eighths,
+            },
+            space,
+            lost,
+        ) {
+            return Ok(at.time);
+        }
+        self.writing.guess(Guess::Moment)?;
+        Ok(earlier)
+    }
+
+    /// When an acknowledgment came, in nanoseconds, in a log whose times are read late.
+    ///
+    /// If the sample by the log is longer than the reported one, by more than the delay that may
+    /// have been taken off, then the log is late by that.
+    fn arrival(
+        &mut self,
+        time: u64,
+        sent: u64,
+        delay: u64,
+        held: Values,
+    ) -> Result<u64, AllocError> {
+        let latest = self.values.rtts.latest.unwrap_or(0);
+        let is_new = latest != held.rtts.latest.unwrap_or(0);
+        let came = sent.saturating_add(latest);
+        let late = time.saturating_sub(came);
+        let least = self
+            .terms
+            .dialect
+            .slack_us
+            .saturating_mul(1_000)
+            .saturating_add(delay);
+        let is_late = is_new && least < late && late <= LATE_BY_PROGRAM;
+        if !is_late || !self.writing.may_be(came) {
+            return Ok(time);
+        }
+        self.writing.guess(Guess::Arrival)?;
+        Ok(came)
+    }
+
+    /// The delay of an acknowledgment by the log, in nanoseconds.
+    fn delay(&self, space: Space, ack: &LoggedAck) -> u64 {
+        if !*self.terms.dialect.subtracts_delay.of(space) {
+            return 0;
+        }
+        if !self.terms.dialect.delay_is_encoded {
+            return ack.delay;
+        }
+        let mut delay = ack.delay;
+        for _ in 0..self.known.delay_exponent.min(20) {
+            delay = delay.saturating_mul(2);
+        }
+        delay
+    }
+
+    /// The delay by which a sample was computed, as the reports before and after it show.
+    fn settled_delay(&mut self, latest: u64, delay: u64, held: Values) -> Result<u64, AllocError> {
+        let longest = if self.keys.is_confirmed {
+            self.known.max_ack_delay
+        } else {
+            None
+        };
+        let reports = reports_of(held, self.values);
+        let settled = self.delays.settled(latest, delay, longest, reports);
+        if settled != delay {
+            self.writing.guess(Guess::Delay)?;
+        }
+        Ok(settled)
+    }
+}
+
+/// An ACK frame whose largest packet was in flight: when that was sent, what was known before the
+/// packet came, and the losses that it shows.
+#[derive(Clone, Copy)]
+struct Answer<'a> {
+    ack: &'a LoggedAck,
+    sent: u64,
+    held: Values,
+    lost: &'a [LostAt],
+}
+
+/// When losses are looked for, and the round-trip time and the eighths of it by which they are.
+#[derive(Clone, Copy)]
+pub(crate) struct Loss {
+    pub(crate) time: u64,
+    pub(crate) rtt: u64,
+    pub(crate) eighths: u64,
+}
+
+/// The estimates before and after, if both reports have them.
+fn reports_of(before: Values, after: Values) -> Option<Reports> {
+    match (estimate_of(before), estimate_of(after)) {
+        (Some(before), Some(after)) => Some(Reports { before, after }),
+        _ => None,
+    }
+}
+
+/// The estimate of values that have one.
+fn estimate_of(values: Values) -> Option<Estimate> {
+    match (values.rtts.smoothed, values.rtts.variance) {
+        (Some(smoothed_rtt), Some(rttvar)) => Some(Estimate {
+            smoothed_rtt,
+            rttvar,
+        }),
+        _ => None,
+    }
+}
+
+/// The greater of the two round-trip times that the last event beside a packet reports.
+fn rtt_of(beside: &[LoggedEvent]) -> u64 {
+    let Some(last) = beside.last() else {
+        return 0;
+    };
+    match &last.said {
+        Said::Report(report) => {
+            report
+                .rtts
+                .latest
+                .unwrap_or(0)
+                .max(report.rtts.smoothed.unwrap_or(0))
+        }
+        _ => 0,
+    }
+}
+
+/// Whether a packet acknowledges one that is declared lost.
+fn is_acknowledged(packet: &LoggedPacket, lost: LostPacket) -> bool {
+    let number = lost.number;
+    packet.acks.iter().any(|ack| {
+        ack.ranges
+            .as_slice()
+            .iter()
+            .any(|span| span.lo() <= number && number <= span.hi())
+    })
+}
+
+/// The losses among events.
+pub(crate) fn losses_in(alloc: Global, events: &[LoggedEvent]) -> Result<Vec<LostAt>, AllocError> {
+    let mut losses = Vec::new(alloc);
+    for event in events {
+        if let Said::Lost(lost) = &event.said {
+            losses.push(LostAt {
+                at: event.at,
+                lost: *lost,
+            })?;
+        }
+    }
+    Ok(losses)
+}
+
+/// The latest time of the reports among events, or this one.
+fn latest_report(time: u64, beside: &[LoggedEvent]) -> u64 {
+    let mut latest = time;
+    for event in beside {
+        if matches!(&event.said, Said::Report(_)) {
+            latest = latest.max(event.at.time);
+        }
+    }
+    latest
+}

@@ -1,0 +1,291 @@
+//! Sizes of packets that were sent, for logs that do not have them.
+//!
+//! They are read off the headers and frames if each frame has its length. A STREAM frame that has
+//! none fills its packet, unless the next data of its stream begins earlier. Of the last one of a
+//! stream nothing says how long it is, so the least is taken.
+use crate::packet::NoEvent;
+use crate::size::PacketSize;
+use json::{Element, Items};
+use qa_base::Space;
+use qa_qlog::{
+    FrameType, Key, NoValue, Packet, data_length, frame_length, frame_type, is_open, offset,
+    stream_id,
+};
+use std::alloc::{AllocError, Global};
+use std::collections::BTreeMap;
+
+/// Bytes of a packet number that is not known, of the tag of the encryption, and of a version.
+const NUMBER: u64 = 4;
+
+const TAG: u64 = 16;
+
+const VERSION: u64 = 4;
+/// A packet that has to be ack-eliciting keeps room for a PING until something else elicits.
+const ROOM: u64 = 1;
+
+/// The size of a packet, by its header and frames.
+#[derive(Clone, Copy)]
+pub(crate) struct FoundSize {
+    pub(crate) size: PacketSize,
+    /// Whether it ends one byte before the packet is full, since a PING had to have room.
+    pub(crate) keeps_room: bool,
+}
+
+/// What is known of a stream.
+#[derive(Drop)]
+struct Stream {
+    /// The highest offset.
+    highest: u64,
+    /// How much data had room in the packet that has it.
+    room: u64,
+    /// By offset, the data of frames without a length that do not fill their packets.
+    short: BTreeMap<u64, u64>,
+}
+
+/// Finds sizes.
+#[derive(Drop)]
+pub(crate) struct Sizes {
+    alloc: Global,
+    /// The size of a packet that is full.
+    full: u64,
+    /// The streams, by their numbers as the log writes them.
+    streams: BTreeMap<String, Stream>,
+}
+
+impl Sizes {
+    /// Before the first packet, if a full one has this size. Takes no memory.
+    pub(crate) fn new(alloc: Global, full: u64) -> Sizes {
+        Sizes {
+            alloc,
+            full,
+            streams: BTreeMap::new(alloc),
+        }
+    }
+
+    /// Looks at the offsets of a packet that has no size, while the log is read for the first time.
+    pub(crate) fn see(&mut self, packet: &Packet<'_, '_>) -> Result<(), NoEvent> {
+        let Some(size) = size_by_frames(packet)? else {
+            return Ok(());
+        };
+        let room = self.full.saturating_sub(size);
+        let Some(frames) = packet.frames()? else {
+            return Ok(());
+        };
+        let mut frames = frames;
+        while let Some(frame) = frames.next() {
+            if frame_type(&frame) == FrameType::Stream {
+                self.see_frame(&frame, room)?;
+            }
+        }
+        Ok(())
+    }
+
+    /// Looks at the offset of a STREAM frame, in a packet that has room for so much data.
+    fn see_frame(&mut self, frame: &Element<'_, '_>, room: u64) -> Result<(), NoEvent> {
+        let offset = offset(frame)?;
+        let name = stream_id(frame).unwrap_or("");
+        match self.streams.get_mut(name) {
+            Some(stream) => stream.see(offset, room)?,
+            None => self.begin(name, offset, room)?,
+        }
+        Ok(())
+    }
+
+    /// The first frame of a stream.
+    fn begin(&mut self, name: &str, offset: u64, room: u64) -> Result<(), AllocError> {
+        let stream = Stream {
+            highest: offset,
+            room,
+            short: BTreeMap::new(self.alloc),
+        };
+        self.streams
+            .insert(String::from_str(self.alloc, name)?, stream)?;
+        Ok(())
+    }
+
+    /// The size of a packet that has none, if anything says it.
+    pub(crate) fn find(&self, packet: &Packet<'_, '_>) -> Result<Option<FoundSize>, NoEvent> {
+        let Some(size) = size_by_frames(packet)? else {
+            return Ok(size_by_payload(packet)?);
+        };
+        let (data, has_open) = match packet.frames()? {
+            Some(frames) => self.open_data(frames, size)?,
+            None => (0, false),
+        };
+        let bytes = size.saturating_add(data);
+        let keeps_room = has_open && bytes.saturating_add(ROOM) == self.full;
+        Ok(Some(FoundSize {
+            size: ranged(bytes)?,
+            keeps_room,
+        }))
+    }
+
+    /// The data of STREAM frames without a length, in a packet of so many other bytes, and whether
+    /// there are any.
+    fn open_data(&self, frames: Items<'_, '_>, size: u64) -> Result<(u64, bool), NoValue> {
+        let mut frames = frames;
+        let mut data = 0u64;
+        let mut has_open = false;
+        while let Some(frame) = frames.next() {
+            if is_open(&frame) {
+                data = data.saturating_add(self.data_of(&frame, size)?);
+                has_open = true;
+            }
+        }
+        Ok((data, has_open))
+    }
+
+    /// The data of a STREAM frame without a length, in a packet of so many other bytes.
+    fn data_of(&self, frame: &Element<'_, '_>, size: u64) -> Result<u64, NoValue> {
+        let room = self.full.saturating_sub(size);
+        let offset = offset(frame)?;
+        match self.streams.get(stream_id(frame).unwrap_or("")) {
+            None => Ok(room),
+            Some(stream) => Ok(stream.data_at(offset, room)),
+        }
+    }
+}
+
+impl Stream {
+    /// Looks at the next offset: data in front of it that had more room does not fill its packet.
+    fn see(&mut self, offset: u64, room: u64) -> Result<(), AllocError> {
+        if offset <= self.highest {
+            return Ok(());
+        }
+        let data = offset - self.highest;
+        if data < self.room {
+            self.short.insert(self.highest, data)?;
+        }
+        self.highest = offset;
+        self.room = room;
+        Ok(())
+    }
+
+    /// How much data is at an offset, with so much room.
+    fn data_at(&self, offset: u64, room: u64) -> u64 {
+        if offset == self.highest {
+            return 0;
+        }
+        match self.short.get(&offset) {
+            Some(data) => room.min(*data),
+            None => room,
+        }
+    }
+}
+
+/// The size by frames of which each has a length, without data that has none.
+fn size_by_frames(packet: &Packet<'_, '_>) -> Result<Option<u64>, NoValue> {
+    let Some(frames) = packet.frames()? else {
+        return Ok(None);
+    };
+    let mut frames = frames;
+    let mut total = 0u64;
+    let mut is_empty = true;
+    while let Some(frame) = frames.next() {
+        let Some(length) = whole_length(&frame)? else {
+            return Ok(None);
+        };
+        total = total.saturating_add(length);
+        is_empty = false;
+    }
+    Ok(if is_empty {
+        None
+    } else {
+        Some(size_with_header(packet, total))
+    })
+}
+
+/// How many bytes a frame has, but for data without a length.
+fn whole_length(frame: &Element<'_, '_>) -> Result<Option<u64>, NoValue> {
+    let Some(length) = frame_length(frame)? else {
+        return Ok(None);
+    };
+    match frame_type(frame) {
+        FrameType::Crypto | FrameType::Stream => match data_length(frame)? {
+            Some(data) => Ok(Some(length.saturating_add(data))),
+            None => Ok(None),
+        },
+        _ => Ok(Some(length)),
+    }
+}
+
+/// The size by the length of the payload, or by what the header says.
+fn size_by_payload(packet: &Packet<'_, '_>) -> Result<Option<FoundSize>, NoValue> {
+    if let Some(payload) = packet.payload_length()? {
+        let size = ranged(size_with_header(packet, payload))?;
+        return Ok(Some(FoundSize {
+            size,
+            keeps_room: false,
+        }));
+    }
+    match packet.header_length()? {
+        Some(length) => Ok(Some(FoundSize {
+            size: ranged(length)?,
+            keeps_room: false,
+        })),
+        None => Ok(None),
+    }
+}
+
+/// A size, if a packet may have it.
+fn ranged(bytes: u64) -> Result<PacketSize, NoValue> {
+    PacketSize::new(bytes).ok_or(NoValue::OutOfRange(Key::Length))
+}
+
+/// The size of a packet with so many bytes of frames (RFC 9000, section 17).
+fn size_with_header(packet: &Packet<'_, '_>, payload: u64) -> u64 {
+    let destination = length_of_hex(packet.destination());
+    let source = length_of_hex(packet.source());
+    let has_source = !packet.source().unwrap_or("").is_empty();
+    let sealed = payload.saturating_add(NUMBER + TAG);
+    let is_app = match packet.packet_type() {
+        Some(kind) => kind.space() == Some(Space::App),
+        None => false,
+    };
+    if is_app && !has_source {
+        return sealed.saturating_add(1).saturating_add(destination);
+    }
+    let ids = 1u64
+        .saturating_add(destination)
+        .saturating_add(1)
+        .saturating_add(source);
+    sealed
+        .saturating_add(1 + VERSION)
+        .saturating_add(ids)
+        .saturating_add(length_of_varint(sealed))
+        .saturating_add(length_of_token(packet))
+}
+
+/// How many bytes the token of an Initial packet takes, with its length.
+fn length_of_token(packet: &Packet<'_, '_>) -> u64 {
+    let is_initial = match packet.packet_type() {
+        Some(kind) => kind.space() == Some(Space::Initial),
+        None => false,
+    };
+    if !is_initial {
+        return 0;
+    }
+    let token = length_of_hex(packet.token());
+    token.saturating_add(length_of_varint(token))
+}
+
+/// How many bytes an integer takes (RFC 9000, section 16).
+fn length_of_varint(value: u64) -> u64 {
+    if value < 1 << 6 {
+        1
+    } else if value < 1 << 14 {
+        2
+    } else if value < 1 << 30 {
+        4
+    } else {
+        8
+    }
+}
+
+/// How many bytes a text of hexadecimal digits stands for.
+pub(crate) fn length_of_hex(text: Option<&str>) -> u64 {
+    match text {
+        Some(text) => text.len() as u64 / 2,
+        None => 0,
+    }
+}

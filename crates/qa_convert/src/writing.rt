@@ -1,0 +1,211 @@
+//! Lines as they are written: their times, what was guessed, and what is in flight behind them.
+use crate::bare::Bare;
+use crate::event::At;
+use crate::flights::{Flights, Forgotten};
+use crate::guess::Guess;
+use crate::noted::NotedFault;
+use crate::notes::Notes;
+use crate::omission::Omission;
+use crate::output::Output;
+use crate::place::Place;
+use crate::values::Values;
+use qa_base::{Event, MetricValues, PacketNumber, PerSpace, Space, Span, Spans, Ticks, TimeUnit};
+use std::alloc::{AllocError, Global};
+use thiserror::Error;
+
+/// Why a log's trace ends.
+#[derive(Clone, Copy, Debug, PartialEq, Eq, Error)]
+pub enum NoLine {
+    /// The log goes on past the last time that a trace may have.
+    #[error("it goes on past the last time of a trace, 10^15 of its unit")]
+    TooLate,
+    /// A line would be longer than one may be.
+    #[error("a line of more than 65,536 bytes")]
+    TooLong,
+    /// A count of probe timeouts rises too much at once.
+    #[error("pto_count rises to {0} at once")]
+    Timeouts(u64),
+    /// Out of memory.
+    #[error("out of memory")]
+    OutOfMemory,
+}
+
+impl From<AllocError> for NoLine {
+    fn from(_refused: AllocError) -> Self {
+        NoLine::OutOfMemory
+    }
+}
+
+impl From<NotedFault> for NoLine {
+    fn from(fault: NotedFault) -> Self {
+        match fault {
+            NotedFault::TooLong => NoLine::TooLong,
+            NotedFault::OutOfMemory => NoLine::OutOfMemory,
+        }
+    }
+}
+
+/// What was written so far, and what the lines leave in flight.
+pub(crate) struct Writing {
+    pub(crate) alloc: Global,
+    pub(crate) output: Output,
+    pub(crate) notes: Notes,
+    pub(crate) flights: Flights,
+    bare: PerSpace<Bare>,
+    /// The time of the last line, in the unit of the trace.
+    time: u64,
+}
+
+impl Writing {
+    /// Before the first line. Takes no memory.
+    pub(crate) fn new(alloc: Global, unit: TimeUnit, has_places: bool) -> Writing {
+        Writing {
+            alloc,
+            output: Output::new(alloc, unit, has_places),
+            notes: Notes::new(alloc),
+            flights: Flights::new(alloc),
+            bare: PerSpace {
+                initial: Bare::new(alloc),
+                handshake: Bare::new(alloc),
+                app: Bare::new(alloc),
+            },
+            time: 0,
+        }
+    }
+
+    /// The next line says that this was guessed.
+    pub(crate) fn guess(&mut self, guess: Guess) -> Result<(), AllocError> {
+        self.notes.guess(guess)?;
+        self.output.guess(guess)
+    }
+
+    /// Counts what is left out.
+    pub(crate) fn omit(&mut self, omission: Omission) -> Result<(), AllocError> {
+        self.notes.omit(omission, 1)
+    }
+
+    /// Whether the next line may have this time, in nanoseconds.
+    pub(crate) fn may_be(&self, nanoseconds: u64) -> bool {
+        self.time <= self.output.in_unit(nanoseconds)
+    }
+
+    /// The time of the next line, which does not go back.
+    pub(crate) fn next_time(&mut self, nanoseconds: u64) -> Result<Ticks, NoLine> {
+        let mut time = self.output.in_unit(nanoseconds);
+        if time < self.time {
+            self.guess(Guess::TimeBack)?;
+            time = self.time;
+        }
+        let Some(ticks) = Ticks::new(time) else {
+            return Err(NoLine::TooLate);
+        };
+        self.time = time;
+        Ok(ticks)
+    }
+
+    /// A packet was sent that is not in flight.
+    pub(crate) fn add_bare(&mut self, space: Space, number: u64) -> Result<(), AllocError> {
+        self.bare.of_mut(space).add(number)
+    }
+
+    /// Whether a packet was sent that is not in flight.
+    pub(crate) fn has_bare(&self, space: Space, number: u64) -> bool {
+        self.bare.of(space).has(number)
+    }
+
+    /// The line of a report.
+    pub(crate) fn report(
+        &mut self,
+        nanoseconds: u64,
+        place: Place,
+        values: Values,
+    ) -> Result<(), NoLine> {
+        let time = self.next_time(nanoseconds)?;
+        let values = self.in_unit(values);
+        self.output
+            .write(Event::Metrics { time, values }, place, place)?;
+        Ok(())
+    }
+
+    /// Values as the trace has them.
+    fn in_unit(&self, values: Values) -> MetricValues {
+        MetricValues {
+            window: values.bytes.window,
+            ssthresh: values.bytes.ssthresh,
+            bytes_in_flight: values.bytes.in_flight,
+            latest_rtt: self.some_in_unit(values.rtts.latest),
+            min_rtt: self.some_in_unit(values.rtts.min),
+            smoothed_rtt: self.some_in_unit(values.rtts.smoothed),
+            rttvar: self.some_in_unit(values.rtts.variance),
+        }
+    }
+
+    /// A duration as the trace has it, if there is one.
+    fn some_in_unit(&self, nanoseconds: Option<u64>) -> Option<u64> {
+        match nanoseconds {
+            Some(nanoseconds) => Some(self.output.in_unit(nanoseconds)),
+            None => None,
+        }
+    }
+
+    /// Bytes that left with no event: a line that only names the packets.
+    pub(crate) fn forget(&mut self, at: At, forgotten: Forgotten) -> Result<(), NoLine> {
+        let time = self.next_time(at.time)?;
+        let values = self.in_unit(Values::none());
+        let event = Event::Metrics { time, values };
+        let Forgotten { space, numbers } = forgotten;
+        let spans = spans_of(self.alloc, &numbers)?;
+        self.output.write_forgotten(event, at.place, space, &spans)?;
+        for number in &numbers {
+            self.flights.of_mut(space).take(*number);
+        }
+        let count = u64::try_from(numbers.len()).unwrap_or(u64::MAX);
+        self.notes.omit(Omission::LeftFlight, count)?;
+        Ok(())
+    }
+
+    /// The line of the Handshake keys.
+    pub(crate) fn keys(&mut self, at: At) -> Result<(), NoLine> {
+        let time = self.next_time(at.time)?;
+        self.output.write(Event::Keys { time }, at.place, at.place)?;
+        Ok(())
+    }
+
+    /// The line of the confirmed handshake.
+    pub(crate) fn confirmed(&mut self, at: At) -> Result<(), NoLine> {
+        let time = self.next_time(at.time)?;
+        self.output
+            .write(Event::Confirmed { time }, at.place, at.place)?;
+        Ok(())
+    }
+}
+
+/// Numbers that rise, as spans of numbers one behind another; none above 2^62 - 1 is there.
+pub(crate) fn spans_of(alloc: Global, numbers: &[u64]) -> Result<Spans, AllocError> {
+    let mut spans = Spans::new(alloc);
+    let mut open: Option<(u64, u64)> = None;
+    for number in numbers {
+        open = match open {
+            Some((low, high)) if high.checked_add(1) == Some(*number) => Some((low, *number)),
+            Some((low, high)) => {
+                push_span(&mut spans, low, high)?;
+                Some((*number, *number))
+            }
+            None => Some((*number, *number)),
+        };
+    }
+    if let Some((low, high)) = open {
+        push_span(&mut spans, low, high)?;
+    }
+    Ok(spans)
+}
+
+/// Appends a span, if both its ends are packet numbers.
+fn push_span(spans: &mut Spans, low: u64, high: u64) -> Result<(), AllocError> {
+    if let (Some(low), Some(high)) = (PacketNumber::new(low), PacketNumber::new(high)) {
+        if let Some(span) = Span::new(low, high) {
+            spans.push(span)?;
+        }
+    }
+    Ok(())
+}
