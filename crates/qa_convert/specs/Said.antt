@@ -95,7 +95,7 @@ SaysParameters unit d (said.OfPeer p) = IsPeerOf unit d p
 SaysParameters unit d said.OwnParameters = parameters.is_of_peer d ≡ false
 SaysParameters unit d _ = ⊥
 
--- a time threshold is in millionths of the round-trip time, as many as a millisecond has nanoseconds
+-- a time threshold is in millionths of the round-trip time: a millisecond has as many nanoseconds
 pub record IsRecoveryOf (unit : Unit) (d : Option Json) (p : RecoveryParameters) : Type 0 where
   pub rtt : duration_in key.InitialRtt unit d ≡ Ok p.initial_rtt
   pub size : whole_in key.MaxDatagramSize d ≡ Ok p.max_datagram_size

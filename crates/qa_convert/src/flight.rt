@@ -164,8 +164,8 @@ impl Flight {
         bytes
     }
 
-    /// Whether one below a number, and not among losses, is younger than the loss delay only by what
-    /// the log cuts off its times.
+    /// Whether one below a number, and not among losses, is younger than the loss delay only by
+    /// what the log cuts off its times.
     pub(crate) fn has_open(&self, top: u64, loss: Loss, space: Space, lost: &[LostAt]) -> bool {
         for (number, packet) in self.packets.range(..top) {
             let age = Age {

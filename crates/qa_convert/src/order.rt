@@ -45,7 +45,8 @@ impl PacketFirst {
         }
     }
 
-    /// Takes the next event, and appends those whose turn it is. After `AllocError` it is of no use.
+    /// Takes the next event, and appends those whose turn it is. After `AllocError` it is of no
+    /// use.
     pub(crate) fn push(
         &mut self,
         event: LoggedEvent,

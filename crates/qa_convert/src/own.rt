@@ -66,8 +66,8 @@ pub fn put_text(
     serde_json::put(keys, alloc, key.name(), value)
 }
 
-/// Puts a list of ranges at a key. `AllocError` comes if it is out of memory, and leaves the keys as
-/// they were.
+/// Puts a list of ranges at a key. `AllocError` comes if it is out of memory, and leaves the keys
+/// as they were.
 pub fn put_ranges(
     keys: &mut OwnKeys,
     alloc: Global,

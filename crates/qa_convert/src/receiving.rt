@@ -146,7 +146,8 @@ impl Conversion {
         number < top.unwrap_or(0).max(largest)
     }
 
-    /// Whether an acknowledgment shows losses, by number or by age at the round-trip time behind it.
+    /// Whether an acknowledgment shows losses, by number, or by age at the round-trip time behind
+    /// it.
     fn is_shown(&self, lost: &[LostAt], packet: &PacketAt, beside: &[LoggedEvent]) -> bool {
         let (Some(first), Some(top)) = (lost.first(), top_of(&packet.packet.acks)) else {
             return false;

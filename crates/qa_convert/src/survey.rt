@@ -14,7 +14,7 @@ use qa_qlog::{Key, NoValue, Packet};
 use std::alloc::{AllocError, Global};
 use thiserror::Error;
 
-/// What fits in an Ethernet frame. A part of the window that is larger, and larger than each packet,
+/// What fits in an Ethernet frame. A part of the window that is larger, and than each packet too,
 /// is of a window of more datagrams.
 const USUAL_DATAGRAM: u64 = 1_500;
 /// By how many bits a delay on the wire is shifted, if its sender does not say (RFC 9000, section
