@@ -1,6 +1,6 @@
 -- What is kept of a record, by its name and its data d.
-use Rattle.std.specs.Prelude.{◌≡◌, ℕ, Bool, true, false, List, Option, Some, None, Result, Ok}
-use Rattle.std.specs.Prelude.{option_and_then, if◌then◌else◌}
+use Rattle.std.specs.Prelude.{◌≡◌, Bool, true, false, Option, Some, None, Ok}
+use Rattle.std.specs.Prelude.{if◌then◌else◌}
 use Rattle.json.specs.Json.{Json}
 use Rattle.qa_base.specs.declared.space.Space.{Space}
 use Rattle.qa_qlog.specs.Losses as losses

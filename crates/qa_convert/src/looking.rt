@@ -1,5 +1,5 @@
 //! What the first reading finds by counting: in which order a log is, and how fine its clock is.
-use crate::dialects::{Absent, Dialect};
+use crate::dialects::Dialect;
 use crate::event::{At, LostPacket, Report};
 use crate::flight::Flying;
 use crate::flights::Flights;
@@ -11,20 +11,11 @@ use std::alloc::{AllocError, Global};
 
 /// Of how many events the order is found. All of a log would take long and say no more.
 const EVENTS_LOOKED_AT: u32 = 5_000;
-/// How many reports or losses there have to be for a finding.
-const LEAST: u64 = 2;
-/// How many if a dialect says another.
-const LEAST_AGAINST_DIALECT: u64 = 5;
-/// How many times as many as there are against it.
-const MANY: u64 = 2;
 /// By how many bytes stacks round what they report.
 const ROUNDING_OF_BYTES: u128 = 64;
 /// How many values a clock is judged by.
-const LEAST_VALUES: u64 = 8;
-/// How far off reports and timers are by a clock of whole milliseconds, in microseconds.
-const SLACK_OF_MILLISECONDS: u64 = 2_000;
+pub(crate) const LEAST_VALUES: u64 = 8;
 
-const EARLY_OF_MILLISECONDS: u64 = 3_000;
 /// A millisecond in nanoseconds.
 pub(crate) const MILLISECOND: u64 = 1_000_000;
 
@@ -52,7 +43,7 @@ impl Order {
     }
 
     /// The dialect with this order.
-    fn of_dialect(self, dialect: Dialect) -> Dialect {
+    pub(crate) fn of_dialect(self, dialect: Dialect) -> Dialect {
         Dialect {
             received_stands_last: self == Order::Before,
             losses_stand_before: self == Order::LossesBefore,
@@ -69,17 +60,6 @@ impl Order {
             }
             Order::Before => "losses and metrics come before the packet_received that caused them",
         }
-    }
-}
-
-/// Whether it is the ones and not the others, if there are enough of either.
-fn against(ones: u64, others: u64, least: u64) -> Option<bool> {
-    if least.max(others.saturating_mul(MANY)) <= ones {
-        Some(true)
-    } else if least.max(ones.saturating_mul(MANY)) <= others {
-        Some(false)
-    } else {
-        None
     }
 }
 
@@ -172,13 +152,13 @@ struct Shown {
 
 /// Whether values of the round-trip time are whole milliseconds.
 #[derive(Clone, Copy)]
-struct Fineness {
+pub(crate) struct Fineness {
     /// How many are.
-    whole: u64,
+    pub(crate) whole: u64,
     /// Whether any is not.
-    has_parts: bool,
+    pub(crate) has_parts: bool,
     /// Whether a latest one is not.
-    has_parts_of_latest: bool,
+    pub(crate) has_parts_of_latest: bool,
 }
 
 /// Looks at the first events of a log.
@@ -198,7 +178,7 @@ pub(crate) struct Looking {
     bytes_reported: u64,
     received: Option<Shown>,
     lost: Vec<(u64, LostPacket)>,
-    fineness: Fineness,
+    pub(crate) fineness: Fineness,
 }
 
 impl Looking {
@@ -231,6 +211,11 @@ impl Looking {
                 has_parts_of_latest: false,
             },
         }
+    }
+
+    /// Whether reports leave out the bytes in flight if they are 0.
+    pub(crate) fn leaves_out_zeros(&self) -> bool {
+        self.counts.zeros_left_out != 0 && self.counts.zeros == 0
     }
 
     /// Whether it looks at the next event.
