@@ -6,18 +6,19 @@ ghost use Rattle.json.specs.Find.{BeginsWith, Finds, InItems};
 ghost use Rattle.qa_convert.specs.Said as said;
 ghost use Rattle.qa_convert.specs.Said.{IsRecoveryOf, IsReportOf, Says};
 ghost use Rattle.qa_convert.specs.Said.{SaysLost, SaysReceived, SaysSent};
+ghost use Rattle.qa_qlog.specs.Losses as losses;
 ghost use Rattle.qa_qlog.specs.Packets.{header_of};
 
 use crate::packet::{LoggedPacket, NoEvent, number_of};
 use crate::place::Place;
-use json::{Element, Items};
+use json::Element;
 use qa_base::{PacketNumber, Space, TimerKind};
 use qa_qlog::{
     ByteCounts, EventName, Key, NoValue, Packet, PacketType, Rtts, Unit, duration_in, has_expired,
     has_only_pto_count, is_application_limited, is_of_peer, is_probe, is_repeated, key_space,
     lost_packets, max_ack_delay, reported_bytes, reported_rtts, timer_kind, timer_space, whole_in,
 };
-use std::alloc::Global;
+use std::alloc::{AllocError, Global};
 
 /// A packet that was declared lost.
 #[derive(Clone, Copy, PartialEq, Eq)]
@@ -196,7 +197,15 @@ fn lost_of(object: Option<Element<'_, '_>>) -> Result<Said, NoEvent>
     ensures { (d : Option Json) → Finds object.entry d → IfOk result (SaysLost d) }
 {
     let is_repeated = is_repeated(&object);
-    let packet = Packet::of(object);
+    lost_in(&Packet::of(object), is_repeated)
+}
+
+/// A packet that was declared lost, by what a record says of it.
+fn lost_in(packet: &Packet<'_, '_>, is_repeated: bool) -> Result<Said, NoEvent>
+    ensures { (d : Option Json) → Finds packet.now.object d
+        → Finds packet.now.header (header_of d) → is_repeated ≡ losses.is_repeated d
+        → IfOk result (SaysLost d) }
+{
     let Some(kind) = packet.packet_type() else {
         return Err(NoEvent::NoPacketType);
     };
@@ -205,9 +214,36 @@ fn lost_of(object: Option<Element<'_, '_>>) -> Result<Said, NoEvent>
     };
     Ok(Said::Lost(LostPacket {
         space,
-        number: number_of(&packet)?,
+        number: number_of(packet)?,
         is_repeated,
     }))
+}
+
+/// What a `packets_lost` says, whose data is this object: a loss for each packet that it names.
+pub(crate) fn losses_of(
+    alloc: Global,
+    object: &Option<Element<'_, '_>>,
+) -> Result<Vec<Said>, NoEvent> {
+    let mut losses = Vec::new(alloc);
+    let Some(packets) = lost_packets(object)? else {
+        return Ok(losses);
+    };
+    let mut packets = packets;
+    while let Some(header) = packets.next() {
+        let packet = Packet {
+            header: Some(header),
+            object: None,
+        };
+        let said = lost_in(&packet, false)?;
+        push(&mut losses, said)?;
+    }
+    Ok(losses)
+}
+
+/// Adds what is said behind the others.
+fn push(losses: &mut Vec<Said>, said: Said) -> Result<(), AllocError> {
+    losses.push(said)?;
+    Ok(())
 }
 
 /// A report.

@@ -4,7 +4,9 @@
 
 mod bare;
 mod clock;
+mod connections;
 mod conversion;
+mod converting;
 mod dialects;
 mod event;
 mod finding;
@@ -32,6 +34,7 @@ mod sending;
 mod size;
 mod sizes;
 mod survey;
+mod surveying;
 mod validation;
 mod values;
 mod writing;

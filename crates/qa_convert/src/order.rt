@@ -7,6 +7,7 @@ use crate::event::{At, LoggedEvent, Report, Said};
 use qa_qlog::{ByteCounts, Rtts};
 use std::alloc::{AllocError, Global};
 use std::collections::VecDeque;
+use std::marker::Model;
 
 /// A report that waits for those of the other packets of a datagram.
 #[derive(Clone, Copy)]
@@ -21,7 +22,7 @@ struct WaitingReport {
 /// were sent stays with them: a packet in flight has at most one report, without a sample. Timers
 /// that are only set are left out.
 #[derive(Drop)]
-pub(crate) struct PacketFirst {
+struct PacketFirst {
     /// What waits for the packet that caused it.
     held: VecDeque<LoggedEvent>,
     /// How many packets in flight were sent whose report is still to come.
@@ -34,8 +35,9 @@ pub(crate) struct PacketFirst {
 
 impl PacketFirst {
     /// Before the first event. Takes no memory.
-    pub(crate) fn new(alloc: Global) -> PacketFirst
+    fn new(alloc: Global) -> PacketFirst
         ensures held { result.held.items ≡ [] }
+        ensures timed { result.is_timed ≡ false }
     {
         PacketFirst {
             held: VecDeque::new(alloc),
@@ -47,7 +49,7 @@ impl PacketFirst {
 
     /// Takes the next event, and appends those whose turn it is. After `AllocError` it is of no
     /// use.
-    pub(crate) fn push(
+    fn push(
         &mut self,
         event: LoggedEvent,
         out: &mut VecDeque<LoggedEvent>,
@@ -79,11 +81,7 @@ impl PacketFirst {
     }
 
     /// The log ends. If it is torn off, the packet is missing for which what is held waits.
-    pub(crate) fn end(
-        &mut self,
-        is_torn: bool,
-        out: &mut VecDeque<LoggedEvent>,
-    ) -> Result<(), AllocError>
+    fn end(&mut self, is_torn: bool, out: &mut VecDeque<LoggedEvent>) -> Result<(), AllocError>
         requires waits { Waits self.old.is_timed self.old.held.items }
         ensures order { OnOk result (is_torn ≡ false
             → Follows (out.old.items ++ self.old.held.items) [] out.new.items) }
@@ -333,6 +331,72 @@ impl PacketFirst {
             said: Said::Report(waiting.report),
         })?;
         Ok(())
+    }
+}
+
+/// Events in the order in which things happened. Contracts see those that wait for the packet that
+/// caused them.
+#[derive(Drop)]
+pub(crate) struct InOrder {
+    alloc: Global,
+    first: PacketFirst,
+}
+
+impl Model for InOrder {
+    ghost use Rattle.std.specs.Prelude.{List};
+    ghost use Rattle.qa_convert.specs.Orders.{Waits};
+    ghost use Rattle.qa_convert.specs.declared.event.LoggedEvent.{LoggedEvent as AnEvent};
+
+    ghost Value = { List AnEvent };
+
+    ghost view = { λ o. o.first.held.items };
+
+    ghost invariant = { λ o. Waits o.first.is_timed o.first.held.items };
+}
+
+impl InOrder {
+    /// Before the first event. Takes no memory.
+    pub(crate) fn new(alloc: Global) -> InOrder
+        ensures { result ≡ [] }
+    {
+        InOrder {
+            alloc,
+            first: PacketFirst::new(alloc),
+        }
+    }
+
+    /// Takes the next event, and appends those whose turn it is. `AllocError` comes if it is out of
+    /// memory; then events are lost, and it is of no use.
+    pub(crate) fn push(
+        &mut self,
+        event: LoggedEvent,
+        out: &mut VecDeque<LoggedEvent>,
+    ) -> Result<(), AllocError>
+        ensures { OnOk result (Follows (out.old.items ++ self.old) (event ∷ [])
+            (out.new.items ++ self.new)) }
+    {
+        match self.first.push(event, out) {
+            Ok(()) => Ok(()),
+            Err(fault) => {
+                self.first = PacketFirst::new(self.alloc);
+                Err(fault)
+            }
+        }
+    }
+
+    /// The log ends. If it is torn off, the packet is missing for which what is held waits.
+    /// `AllocError` comes if it is out of memory; then events are lost, and it is of no use.
+    pub(crate) fn end(
+        &mut self,
+        is_torn: bool,
+        out: &mut VecDeque<LoggedEvent>,
+    ) -> Result<(), AllocError>
+        ensures { OnOk result (is_torn ≡ false
+            → Follows (out.old.items ++ self.old) [] out.new.items) }
+    {
+        let result = self.first.end(is_torn, out);
+        self.first = PacketFirst::new(self.alloc);
+        result
     }
 }
 

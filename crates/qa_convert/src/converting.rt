@@ -1,0 +1,244 @@
+//! The second reading of a log: its texts, one after another, as the lines of a trace.
+use crate::conversion::{Conversion, Terms};
+use crate::event::{At, LoggedEvent, Said, losses_of};
+use crate::groups::{Group, Groups};
+use crate::omission::Omission;
+use crate::order::InOrder;
+use crate::packet::LoggedPacket;
+use crate::place::Place;
+use crate::sizes::Sizes;
+use crate::survey::{Retry, Survey};
+use crate::surveying::{Cursor, NoRecord};
+use crate::writing::{NoLine, Writing};
+use json::{Element, Error as JsonError, Scratch, Tape};
+use qa_qlog::{EventName, Head, Packet};
+use std::alloc::{AllocError, Global};
+use std::collections::VecDeque;
+use thiserror::Error;
+
+/// Why a trace ends before its log does.
+#[derive(Clone, Copy, Debug, PartialEq, Eq, Error)]
+pub enum NoMore {
+    /// A text cannot be read.
+    #[error("{0}")]
+    Record(NoRecord),
+    /// A line cannot be written.
+    #[error("{0}")]
+    Line(NoLine),
+}
+
+impl From<NoRecord> for NoMore {
+    fn from(fault: NoRecord) -> Self {
+        NoMore::Record(fault)
+    }
+}
+
+impl From<NoLine> for NoMore {
+    fn from(fault: NoLine) -> Self {
+        NoMore::Line(fault)
+    }
+}
+
+/// Reads a log for the second time.
+pub(crate) struct Converting {
+    alloc: Global,
+    head: Head,
+    cursor: Cursor,
+    sizes: Sizes,
+    retry: Option<Retry>,
+    /// How many packets were sent before the Retry.
+    pub(crate) sent_before: u64,
+    order: Option<InOrder>,
+    groups: Groups,
+    pub(crate) conversion: Conversion,
+    /// Events in their order, and the groups of them, that are not yet written.
+    events: VecDeque<LoggedEvent>,
+    ready: VecDeque<Group>,
+}
+
+impl Converting {
+    /// Before the first record of a log that was surveyed.
+    pub(crate) fn new(
+        alloc: Global,
+        head: Head,
+        chosen: u64,
+        terms: Terms,
+        survey: Survey,
+        writing: Writing,
+    ) -> Converting {
+        let cursor = Cursor::new(alloc, &head, chosen);
+        let order = if terms.dialect.received_stands_last {
+            Some(InOrder::new(alloc))
+        } else {
+            None
+        };
+        let conversion = Conversion::new(terms, &survey, writing);
+        Converting {
+            alloc,
+            head,
+            cursor,
+            sizes: survey.sizes,
+            retry: survey.retry,
+            sent_before: 0,
+            order,
+            groups: Groups::new(alloc, terms.dialect),
+            conversion,
+            events: VecDeque::new(alloc),
+            ready: VecDeque::new(alloc),
+        }
+    }
+
+    /// Takes the next text, which begins there. After an error it is of no use.
+    pub(crate) fn push(&mut self, text: &[u8], place: Place) -> Result<(), NoMore> {
+        let Ok(text) = str::from_utf8(text) else {
+            return Err(NoMore::Record(NoRecord::NotJson));
+        };
+        let mut scratch = Scratch::new(self.alloc);
+        match Tape::parse(text, &mut scratch, Vec::new(self.alloc)) {
+            Ok(tape) => self.take(&tape.root(), place),
+            Err(JsonError::Invalid) => Err(NoMore::Record(NoRecord::NotJson)),
+            Err(_) => Err(NoMore::Record(NoRecord::OutOfMemory)),
+        }
+    }
+
+    /// Takes a text that is not JSON, and that says nothing of packets: a report perhaps.
+    pub(crate) fn push_unread(&mut self, at: At) -> Result<(), NoLine> {
+        self.pass(LoggedEvent {
+            at,
+            said: Said::UnreadReport,
+        })
+    }
+
+    /// Takes the next record.
+    fn take(&mut self, record: &Element<'_, '_>, place: Place) -> Result<(), NoMore> {
+        let Some(named) = self.cursor.next(&self.head, record, place)? else {
+            return Ok(());
+        };
+        let at = named.at;
+        if named.name == EventName::PacketsLost {
+            return self.take_losses(record, at);
+        }
+        let said = self.said(record, named.name)?;
+        self.pass(LoggedEvent { at, said })?;
+        Ok(())
+    }
+
+    /// What a record of this name says, with the size of a packet that is sent.
+    fn said(&self, record: &Element<'_, '_>, name: EventName) -> Result<Said, NoRecord> {
+        let unit = self.head.unit;
+        match Said::of(self.alloc, name, self.head.data(record), unit)? {
+            Said::Sent(packet) => Ok(Said::Sent(self.sized(record, packet)?)),
+            said => Ok(said),
+        }
+    }
+
+    /// A packet that is sent, with its size.
+    fn sized(
+        &self,
+        record: &Element<'_, '_>,
+        packet: LoggedPacket,
+    ) -> Result<LoggedPacket, NoRecord> {
+        if packet.size.is_some() {
+            return Ok(packet);
+        }
+        let mut packet = packet;
+        if let Some(found) = self.sizes.find(&Packet::of(self.head.data(record)))? {
+            packet.size = Some(found.size);
+            packet.is_size_guessed = true;
+            packet.keeps_room = found.keeps_room;
+        }
+        Ok(packet)
+    }
+
+    /// Takes the losses that a record names.
+    fn take_losses(&mut self, record: &Element<'_, '_>, at: At) -> Result<(), NoMore> {
+        let losses = match losses_of(self.alloc, &self.head.data(record)) {
+            Ok(losses) => losses,
+            Err(fault) => return Err(NoMore::Record(NoRecord::from(fault))),
+        };
+        for said in losses {
+            self.pass(LoggedEvent { at, said })?;
+        }
+        Ok(())
+    }
+
+    /// Passes an event on, if it is behind a Retry, and no loss of what a probe only sends again.
+    fn pass(&mut self, event: LoggedEvent) -> Result<(), NoLine> {
+        if let Said::Lost(lost) = &event.said {
+            if lost.is_repeated {
+                return Ok(self.conversion.writing.omit(Omission::LossOfProbe)?);
+            }
+        }
+        let Some(retry) = self.retry else {
+            return self.arrange(event);
+        };
+        if event.at.index < retry.first {
+            if matches!(&event.said, Said::Sent(_)) {
+                self.sent_before = self.sent_before.saturating_add(1);
+            }
+            return Ok(());
+        }
+        if is_before(&event.said, &retry) {
+            return Ok(self.conversion.writing.omit(Omission::LossBeforeRetry)?);
+        }
+        self.arrange(event)
+    }
+
+    /// Takes an event in the order in which things happened, and writes the groups that are
+    /// complete.
+    fn arrange(&mut self, event: LoggedEvent) -> Result<(), NoLine> {
+        self.queue(event)?;
+        self.group()?;
+        self.write_groups()
+    }
+
+    /// Takes an event in the order in which things happened.
+    fn queue(&mut self, event: LoggedEvent) -> Result<(), AllocError> {
+        match &mut self.order {
+            Some(order) => order.push(event, &mut self.events),
+            None => {
+                self.events.push_back(event)?;
+                Ok(())
+            }
+        }
+    }
+
+    /// Takes the events in their order into groups.
+    fn group(&mut self) -> Result<(), AllocError> {
+        while let Some(event) = self.events.pop_front() {
+            self.groups.push(event, &mut self.ready)?;
+        }
+        Ok(())
+    }
+
+    /// Writes groups that are complete.
+    fn write_groups(&mut self) -> Result<(), NoLine> {
+        while let Some(group) = self.ready.pop_front() {
+            self.conversion.write(group)?;
+        }
+        Ok(())
+    }
+
+    /// The log ends, perhaps torn off.
+    pub(crate) fn end(&mut self, is_torn: bool) -> Result<(), NoLine> {
+        if let Some(order) = &mut self.order {
+            order.end(is_torn, &mut self.events)?;
+        }
+        self.group()?;
+        self.groups.end(is_torn, &mut self.ready)?;
+        self.write_groups()?;
+        self.conversion.end()?;
+        Ok(())
+    }
+}
+
+/// Whether an event is a loss of a packet that was sent before a Retry.
+fn is_before(said: &Said, retry: &Retry) -> bool {
+    match said {
+        Said::Lost(lost) => match *retry.numbers.of(lost.space) {
+            Some(last) => lost.number.get() <= last,
+            None => false,
+        },
+        _ => false,
+    }
+}

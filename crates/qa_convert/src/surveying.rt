@@ -1,0 +1,162 @@
+//! The first reading of a log: its texts, one after another.
+use crate::clock::Clock;
+use crate::connections::Connections;
+use crate::event::{At, LoggedEvent, Said, losses_of};
+use crate::packet::NoEvent;
+use crate::place::Place;
+use crate::survey::Survey;
+use json::{Element, Error as JsonError, Scratch, Tape};
+use qa_qlog::{EventName, Head, NoTime, path_id};
+use std::alloc::{AllocError, Global};
+use thiserror::Error;
+
+/// Why a text of a log is no record that can be read.
+#[derive(Clone, Copy, Debug, PartialEq, Eq, Error)]
+pub enum NoRecord {
+    /// It is not JSON.
+    #[error("not JSON")]
+    NotJson,
+    /// Its time cannot be read.
+    #[error("time: {0}")]
+    Time(NoTime),
+    /// Its event cannot be read.
+    #[error("{0}")]
+    Event(NoEvent),
+    /// Out of memory.
+    #[error("out of memory")]
+    OutOfMemory,
+}
+
+impl From<NoTime> for NoRecord {
+    fn from(fault: NoTime) -> Self {
+        NoRecord::Time(fault)
+    }
+}
+
+impl From<NoEvent> for NoRecord {
+    fn from(fault: NoEvent) -> Self {
+        match fault {
+            NoEvent::OutOfMemory => NoRecord::OutOfMemory,
+            fault => NoRecord::Event(fault),
+        }
+    }
+}
+
+impl From<AllocError> for NoRecord {
+    fn from(_refused: AllocError) -> Self {
+        NoRecord::OutOfMemory
+    }
+}
+
+/// Where the reading of a log is.
+#[derive(Drop)]
+pub(crate) struct Cursor {
+    clock: Clock,
+    pub(crate) connections: Connections,
+    /// The index of the next record.
+    index: u64,
+}
+
+/// The name of an event that is converted, and where and when its record is.
+#[derive(Clone, Copy)]
+pub(crate) struct Named {
+    pub(crate) name: EventName,
+    pub(crate) at: At,
+}
+
+impl Cursor {
+    /// Before the first record of a log with this head, if that connection is chosen.
+    pub(crate) fn new(alloc: Global, head: &Head, chosen: u64) -> Cursor {
+        Cursor {
+            clock: Clock::new(head.form),
+            connections: Connections::new(alloc, chosen),
+            index: 0,
+        }
+    }
+
+    /// The name, the place and the time of the next record, if its event is one that is converted.
+    pub(crate) fn next(
+        &mut self,
+        head: &Head,
+        record: &Element<'_, '_>,
+        place: Place,
+    ) -> Result<Option<Named>, NoRecord> {
+        let index = self.index;
+        self.index = self.index.saturating_add(1);
+        let Some(event) = head.event(record)? else {
+            return Ok(None);
+        };
+        let time = self.clock.next(event.time);
+        let Some(name) = event.name else {
+            return Ok(None);
+        };
+        let object = head.data(record);
+        if !self
+            .connections
+            .has(head.group_id(record), path_id(&object))?
+        {
+            return Ok(None);
+        }
+        let at = At { place, index, time };
+        Ok(Some(Named { name, at }))
+    }
+}
+
+/// Reads a log for the first time.
+#[derive(Drop)]
+pub(crate) struct Surveying {
+    alloc: Global,
+    head: Head,
+    pub(crate) cursor: Cursor,
+    pub(crate) survey: Survey,
+}
+
+impl Surveying {
+    /// Before the first record of a log.
+    pub(crate) fn new(alloc: Global, head: Head, chosen: u64, survey: Survey) -> Surveying {
+        let cursor = Cursor::new(alloc, &head, chosen);
+        Surveying {
+            alloc,
+            head,
+            cursor,
+            survey,
+        }
+    }
+
+    /// Looks at the next text, which begins there. After `OutOfMemory` it is of no use.
+    pub(crate) fn push(&mut self, text: &[u8], place: Place) -> Result<(), NoRecord> {
+        let Ok(text) = str::from_utf8(text) else {
+            return Err(NoRecord::NotJson);
+        };
+        let mut scratch = Scratch::new(self.alloc);
+        match Tape::parse(text, &mut scratch, Vec::new(self.alloc)) {
+            Ok(tape) => self.see(&tape.root(), place),
+            Err(JsonError::Invalid) => Err(NoRecord::NotJson),
+            Err(_) => Err(NoRecord::OutOfMemory),
+        }
+    }
+
+    /// Looks at the next record.
+    fn see(&mut self, record: &Element<'_, '_>, place: Place) -> Result<(), NoRecord> {
+        let Some(named) = self.cursor.next(&self.head, record, place)? else {
+            return Ok(());
+        };
+        if named.name == EventName::PacketsLost {
+            return self.see_losses(record, named.at);
+        }
+        let unit = self.head.unit;
+        let said = Said::of(self.alloc, named.name, self.head.data(record), unit)?;
+        let event = LoggedEvent { at: named.at, said };
+        self.survey.see(self.alloc, &event, self.head.data(record))?;
+        Ok(())
+    }
+
+    /// Looks at the losses that a record names.
+    fn see_losses(&mut self, record: &Element<'_, '_>, at: At) -> Result<(), NoRecord> {
+        for said in losses_of(self.alloc, &self.head.data(record))? {
+            let event = LoggedEvent { at, said };
+            self.survey.see(self.alloc, &event, None)?;
+        }
+        Ok(())
+    }
+}
