@@ -1,18 +1,20 @@
 """The rows that qaudit-why writes of a trace, as columns."""
 
 import json
+import pickle
 from collections import deque
-from collections.abc import Callable, Iterable, Iterator
-from concurrent.futures import Future
+from collections.abc import Iterable, Iterator
+from concurrent.futures import Future, ProcessPoolExecutor
 from concurrent.futures.process import BrokenProcessPool
 from dataclasses import dataclass, field
 from itertools import compress, islice
+from mmap import mmap
 from operator import itemgetter
 
 from .failure import Failure
-from .program import Object, Run
+from .program import PIECE, Object, Run
 from .said import TIMERS, Said, said_of
-from .streams import workers_of
+from .streams import given, workers_of
 from .texts import runs
 
 # The amounts of a state and their keys in a row, for the unit of its times.
@@ -27,8 +29,9 @@ AMOUNTS = {
     "pto_count": "pto_count",
     "deadline": "deadline_{}",
 }
-# How many pieces are read before the first of them is wanted.
+# How many pieces are read before the first of them is wanted, and the room for each.
 AHEAD = 8
+ROOM = 2 * PIECE
 
 
 @dataclass
@@ -89,6 +92,18 @@ def read(lines: bytes) -> Rows:
     return columns_of(rows)
 
 
+def read_at(begin: int, size: int) -> int | Rows:
+    """Reads the lines at a place of the memory that a process was given, and puts the rows there.
+    Their size; or the rows, if they have no room."""
+    memory = given()
+    rows = read(memory[begin : begin + size])
+    data = pickle.dumps(rows)
+    if len(data) > ROOM:
+        return rows
+    memory[begin : begin + len(data)] = data
+    return len(data)
+
+
 def rows_by(run: Run, readers: int) -> Iterator[Rows]:
     """The rows of a run with `--rows`, some at a time. All but the first few are read by so many
     other processes, where that is not 0."""
@@ -101,21 +116,37 @@ def rows_by(run: Run, readers: int) -> Iterator[Rows]:
         second = next(pieces, None)
         if second is None:
             return
-        with workers_of(readers) as pool:
+        with mmap(-1, AHEAD * ROOM) as places, workers_of(readers, places) as pool:
             yield read(second)
-            yield from ahead(lambda piece: pool.submit(read, piece), pieces)
+            yield from ahead(pool, places, pieces)
     except (BrokenProcessPool, OSError) as fault:
         raise Failure(f"a process that reads the rows failed: {fault}") from fault
 
 
-def ahead(
-    begin: Callable[[bytes], Future[Rows]], pieces: Iterable[bytes]
-) -> Iterator[Rows]:
-    """What is begun with each piece, in order, while some behind it are worked on."""
-    begun: deque[Future[Rows]] = deque()
-    for piece in pieces:
-        begun.append(begin(piece))
+def ahead(pool: ProcessPoolExecutor, places: mmap, pieces: Iterable[bytes]) -> Iterator[Rows]:
+    """The rows of each piece, in order, while some behind it are worked on.
+
+    A piece lies in memory that is shared, and so do its rows: if a process dies, the other end of
+    a pipe that is full, or has a part of an object, would wait for ever.
+    """
+    begun: deque[tuple[int, Future[int | Rows]]] = deque()
+
+    def first() -> Rows:
+        begin, reading = begun.popleft()
+        found = reading.result()
+        if isinstance(found, Rows):
+            return found
+        rows: Rows = pickle.loads(places[begin : begin + found])
+        return rows
+
+    for number, piece in enumerate(pieces):
+        begin = number % AHEAD * ROOM
+        if len(piece) <= ROOM:
+            places[begin : begin + len(piece)] = piece
+            begun.append((begin, pool.submit(read_at, begin, len(piece))))
+        else:
+            begun.append((begin, pool.submit(read, piece)))
         if len(begun) == AHEAD:
-            yield begun.popleft().result()
-    for one in begun:
-        yield one.result()
+            yield first()
+    while begun:
+        yield first()

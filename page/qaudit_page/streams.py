@@ -11,6 +11,7 @@ import sys
 from collections.abc import Callable, Iterator
 from concurrent.futures import Future, ProcessPoolExecutor
 from contextlib import contextmanager
+from mmap import mmap
 from threading import Thread
 from typing import TextIO
 
@@ -94,9 +95,20 @@ def wait_for_the_end(*_: object) -> None:
         signal.pause()
 
 
-def follow(parent: int) -> None:
+# What this process shares with the one that it works for.
+SHARED: list[mmap] = []
+
+
+def given() -> mmap:
+    """The memory that this process was given."""
+    return SHARED[-1]
+
+
+def follow(parent: int, shared: mmap | None) -> None:
     """What a process does first that another has started to work for it: it ends when that one
     does, however that may be."""
+    if shared is not None:
+        SHARED.append(shared)
     signal.signal(signal.SIGINT, wait_for_the_end)
     ctypes.CDLL(None).prctl(PR_SET_PDEATHSIG, signal.SIGKILL)
     if os.getppid() != parent:
@@ -126,11 +138,12 @@ class Aside(Thread):
 
 
 @contextmanager
-def workers_of(count: int) -> Iterator[ProcessPoolExecutor]:
-    """So many processes that work for this one. If something ends this before its time, they are
-    killed."""
+def workers_of(count: int, shared: mmap | None = None) -> Iterator[ProcessPoolExecutor]:
+    """So many processes that work for this one, and share memory with it. If something ends this
+    before its time, they are killed."""
     fork = multiprocessing.get_context("fork")
-    pool = ProcessPoolExecutor(count, fork, initializer=follow, initargs=(os.getpid(),))
+    first = (os.getpid(), shared)
+    pool = ProcessPoolExecutor(count, fork, initializer=follow, initargs=first)
     try:
         with without_interrupts():
             # The first piece of work starts all of them.
