@@ -1,5 +1,5 @@
-//! The conversion of a qlog to a trace: the lines that are written, and the keys in which they say
-//! where in the log they are from and what was guessed.
+//! The conversion of a qlog to a trace: what the log says, in the order in which it happened, and
+//! the lines of it, with keys in which they say where they are from and what was guessed.
 #![tactic(auto)]
 
 mod bare;
