@@ -9,6 +9,7 @@ pub mod Keyed
 pub mod Laws
 pub mod Named
 pub mod Pieces
+pub mod Places
 pub mod Powers
 pub mod Scans
 pub mod Sizes

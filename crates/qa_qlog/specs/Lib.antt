@@ -18,6 +18,7 @@ pub mod Objects
 pub mod Outer
 pub mod Packets
 pub mod Parameters
+pub mod Places
 pub mod Ranges
 pub mod Records
 pub mod Says

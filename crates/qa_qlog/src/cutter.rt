@@ -73,8 +73,12 @@ enum Step {
 /// It checks the brackets, keys, colons and commas of the object, of its list at the key `traces`,
 /// of each object in that list, and of the list at the key `events` of each of these. Of any other
 /// value, and so of each record, it sees only where the value ends: that it is JSON is for whoever
-/// reads it. Keys are compared as they are written. Each record is lent out of a buffer that holds
-/// the last part and the record that was unfinished before it.
+/// reads it. A value that does not end takes in all that follows, and the log is then torn off
+/// where it begins. Keys are compared as they are written. If the log has the key `traces` twice,
+/// its traces are counted through both lists.
+///
+/// Each record is lent out of a buffer that holds the last part and the record that was unfinished
+/// before it. Beside it memory goes to the skeleton alone, however deep the values nest.
 #[derive(Drop)]
 pub struct DocumentCutter {
     /// The bytes that were read since the buffer was last moved, and after them those that were

@@ -4,6 +4,7 @@ ghost use Rattle.std.specs.Prelude.{◌≡◌, ◌≢◌, ◌++◌, ℕ, List, [
 ghost use Rattle.qa_qlog.specs.Cuts.{Cut, Uncut, cuts_of, empty, skeleton_of};
 ghost use Rattle.qa_qlog.specs.Cutting.{Fails, Lacks, Takes};
 ghost use Rattle.qa_qlog.specs.Holding.{Holds, fed};
+ghost use Rattle.qa_qlog.specs.Places.{StandAtTheirPlaces};
 ghost use Rattle.qa_qlog.specs.declared.cutter.CutFault.{CutFault};
 ghost use Rattle.qa_qlog.specs.declared.cutter.CutFault.TheVariants.{OutOfMemory};
 
@@ -25,4 +26,9 @@ pub fn cuts_whatever_the_parts()
     ensures failed { (taken : List Cut) (old new : Uncut) (fault : CutFault) (log : List ℕ)
         → Fails old fault new → fault ≢ OutOfMemory → Holds taken old log
         → (more : List ℕ) → cuts_of (log ++ more) ≡ (taken, Err fault) }
+{}
+
+/// Each record of a log has the bytes that stand at its place in the log.
+pub fn records_stand_at_their_places()
+    ensures { StandAtTheirPlaces }
 {}

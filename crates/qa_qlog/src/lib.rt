@@ -31,7 +31,7 @@ mod times;
 
 pub use acks::{NoRanges, ack_delay, acked_ranges, ce_count};
 pub use cutter::{CutFault, DocumentCutter, Record, Skeleton};
-pub use cutter_law::cuts_whatever_the_parts;
+pub use cutter_law::{cuts_whatever_the_parts, records_stand_at_their_places};
 pub use documents::{records_of, traces_of};
 pub use fields::Fields;
 pub use frames::{Content, FrameType, frame_type};
