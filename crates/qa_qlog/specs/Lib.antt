@@ -1,7 +1,10 @@
 pub mod Acks
+pub mod Cuts
+pub mod Cutting
 pub mod Documents
 pub mod Frames
 pub mod Heads
+pub mod Holding
 pub mod Keys
 pub mod Kinds
 pub mod Lengths
@@ -12,8 +15,10 @@ pub mod Metrics
 pub mod Names
 pub mod Numbers
 pub mod Objects
+pub mod Outer
 pub mod Packets
 pub mod Parameters
+pub mod Places
 pub mod Ranges
 pub mod Records
 pub mod Says

@@ -1,10 +1,12 @@
 //! What a qlog is and what it has: its kind by its beginning, its texts out of bytes that come in
-//! parts, each with the number of its line, how its records are read, the name, the time and the
-//! data of a record, and what these data say: packets and their frames, losses, reports,
-//! parameters, timers and keys.
+//! parts, each with the number of its line, or its records, each with its place, where it is one
+//! object, how records are read, the name, the time and the data of a record, and what these data
+//! say: packets and their frames, losses, reports, parameters, timers and keys.
 #![tactic(auto)]
 
 mod acks;
+mod cutter;
+mod cutter_law;
 mod documents;
 mod fields;
 mod frames;
@@ -17,6 +19,7 @@ mod losses;
 mod metrics;
 mod names;
 mod numbers;
+mod outer;
 mod packets;
 mod parameters;
 mod records;
@@ -27,6 +30,8 @@ mod timers;
 mod times;
 
 pub use acks::{NoRanges, ack_delay, acked_ranges, ce_count};
+pub use cutter::{CutFault, DocumentCutter, Record, Skeleton};
+pub use cutter_law::{cuts_whatever_the_parts, records_stand_at_their_places};
 pub use documents::{records_of, traces_of};
 pub use fields::Fields;
 pub use frames::{Content, FrameType, frame_type};

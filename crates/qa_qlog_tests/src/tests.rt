@@ -1,4 +1,5 @@
-//! Logs whose texts, lines, kinds, times, names, heads and records were read by hand.
+//! Logs whose texts, records, lines, kinds, times, names, heads and records were read by hand.
+mod cutter;
 mod documents;
 mod frames;
 mod heads;
