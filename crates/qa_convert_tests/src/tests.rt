@@ -5,3 +5,4 @@ mod flight;
 mod lines;
 mod packets;
 mod rounding;
+mod said;

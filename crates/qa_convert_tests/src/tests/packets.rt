@@ -1,7 +1,7 @@
 //! What is kept of packets.
 use json::{Scratch, Tape};
 use qa_base::Space;
-use qa_convert::{LoggedAck, LoggedPacket, NoEvent};
+use qa_convert::{LoggedAck, LoggedPacket, NoEvent, PacketSize};
 use qa_qlog::{Key, NoValue, Unit};
 use std::alloc::Global;
 
@@ -14,6 +14,14 @@ fn packet_of(alloc: Global, text: &str) -> Result<Option<LoggedPacket>, NoEvent>
     }
 }
 
+/// The bytes of a size.
+fn bytes_of(size: Option<PacketSize>) -> Option<u64> {
+    match size {
+        Some(size) => Some(size.get()),
+        None => None,
+    }
+}
+
 /// Its space, number, size, whether it is ack-eliciting, in flight and a probe.
 fn said_of(packet: &LoggedPacket) -> (Space, u64, Option<u64>, [bool; 3]) {
     let content = packet.content;
@@ -22,7 +30,8 @@ fn said_of(packet: &LoggedPacket) -> (Space, u64, Option<u64>, [bool; 3]) {
         content.is_in_flight(),
         packet.is_probe,
     ];
-    (packet.space, packet.number, packet.size, flags)
+    let number = packet.number.get();
+    (packet.space, number, bytes_of(packet.size), flags)
 }
 
 /// Whether the packet is kept with these values.
