@@ -1,6 +1,8 @@
 -- Texts of ASCII.
 use Rattle.std.specs.Prelude.{if◌then◌else◌, codes}
-use Rattle.std.proofs.Common.{◌≡◌, ◌+◌, ◌%◌, ◌^◌, ◌<◌, ℕ, List, [], ◌∷◌, ◌++◌, true, false, Bool, nat_lt, decimal, refl, lt-ltb, arith}
+use Rattle.std.proofs.Common.{◌≡◌, ◌∙◌, ◌+◌, ◌%◌, ◌^◌, ◌<◌, ℕ, List, [], ◌∷◌, ◌++◌, true, false, Bool, nat_lt, decimal, refl, lt-ltb, ap, arith}
+use Rattle.std.specs.List.{list_any}
+use Rattle.std.specs.Prelude.{◌&&◌, ◌||◌, not}
 use Rattle.std.proofs.lemmas.Bool.{and_parts, and_from}
 use Rattle.std.proofs.lemmas.Fmt.{decimal_by_steps}
 use Rattle.qa_format.specs.format.Simple.{is_ascii}
@@ -34,3 +36,12 @@ stretch_is_ascii s first later =
     let ended = if is_place s.first s.last then [] else codes " to " ++ place_text s.last in
     is_ascii-append (begun ++ place_text s.first) ended (is_ascii-append begun (place_text s.first) (begun_is_ascii s.is_guess) first)
     (ended_is_ascii (is_place s.first s.last) (place_text s.last) later)
+
+one_below : (b rest : Bool) → not (not b || rest) ≡ b && not rest
+one_below true rest = refl
+one_below false rest = refl
+
+pub none_above : (xs : List ℕ) → not (list_any (λ x. not (nat_lt x 128)) xs) ≡ is_ascii xs
+none_above [] = refl
+none_above (x ∷ xs) =
+    one_below (nat_lt x 128) (list_any (λ y. not (nat_lt y 128)) xs) ∙ ap (λ rest. nat_lt x 128 && rest) (none_above xs)

@@ -1,7 +1,14 @@
 pub mod Ascii
+pub mod Closing
+pub mod Ending
 pub mod Flown
+pub mod Gathered
+pub mod Grouped
 pub mod Guessed
 pub mod OneLine
+pub mod Opened
 pub mod Ordered
 pub mod PassedOver
 pub mod Spliced
+pub mod Texts
+pub mod Traces

@@ -1,5 +1,7 @@
 pub mod Clocks
 pub mod Flights
+pub mod Gathering
+pub mod Groups
 pub mod Guesses
 pub mod Packets
 pub mod Orders

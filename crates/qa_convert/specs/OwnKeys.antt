@@ -1,14 +1,15 @@
 -- Keys that a line has behind those of its table: they begin with `x_`, and no reader knows them.
 use Rattle.std.specs.Prelude.{◌≡◌, ◌-◌, ℕ, List, [], ◌∷◌, ◌++◌, Bool, true, false, ⊤, codes}
 use Rattle.std.specs.Prelude.{◌≤◌, drop, length, map, take}
-use Rattle.serde_json.specs.Data.{Members, no_members, member, object}
+use Rattle.std.specs.List.{AllByRecursion}
+use Rattle.serde_json.specs.Data.{Data, Members, no_members, member, object, string}
 use Rattle.serde_json.specs.Written.{compact_text}
 use Rattle.qa_convert.specs.declared.own.OwnKey.{OwnKey}
 use Rattle.qa_convert.specs.declared.own.OwnKey.TheVariants.{Dialect, Forgot, Guess, Note, Place}
 use Rattle.qa_convert.specs.declared.own.OwnKey.TheVariants.{Space}
 use Rattle.qa_format.specs.declared.line.Line.{Line}
 use Rattle.qa_format.specs.declared.line.Line.TheVariants as line
-use Rattle.qa_format.specs.format.Lines.{line_limit}
+use Rattle.qa_format.specs.format.Lines.{ended, line_limit, with_lf}
 use Rattle.qa_format.specs.format.Proper.{IsProperLine}
 use Rattle.qa_format.specs.format.Simple.{IsKept, is_ascii}
 use Rattle.qa_format.specs.format.Written.{event_pairs, header_pairs, members}
@@ -41,6 +42,11 @@ abbrev pub AreOwn : Members → Type 0
 AreOwn no_members = ⊤
 AreOwn (member k d ms) = IsOwn k × IsKept d × AreOwn ms
 
+-- the value is a text of ASCII
+abbrev pub IsText : Data → Type 0
+IsText (string s) = is_ascii s ≡ true
+IsText _ = ⊥
+
 -- the texts of two objects as one: all but the last byte of the first, a comma, and all but the
 -- first byte of the second
 abbrev pub joined : List ℕ → List ℕ → List ℕ
@@ -64,3 +70,26 @@ IsWritten n = IsProperLine n.0 × AreOwn n.1 × (length (noted n.0 n.1) ≤ line
 
 abbrev pub texts_of : List Noted → List (List ℕ)
 texts_of ns = map (λ n. noted n.0 n.1) ns
+
+-- the line is that of an event, and that of a header
+abbrev pub IsOfEvent : Line → Type 0
+IsOfEvent (line.Event e) = ⊤
+IsOfEvent _ = ⊥
+
+abbrev pub IsOfHeader : Line → Type 0
+IsOfHeader (line.Header s) = ⊤
+IsOfHeader _ = ⊥
+
+-- there is such a line of an event
+abbrev pub IsWrittenEvent : Noted → Type 0
+IsWrittenEvent n = IsOfEvent n.0 × IsWritten n
+
+-- bytes are lines of events, each ended by LF
+abbrev pub AreEventLines : List ℕ → Type 0
+AreEventLines bytes =
+    (ns : List Noted) × AllByRecursion IsWrittenEvent ns × (bytes ≡ ended (texts_of ns))
+
+-- bytes are the line of a header, ended by LF
+abbrev pub IsHeaderLine : List ℕ → Type 0
+IsHeaderLine bytes =
+    (n : Noted) × IsOfHeader n.0 × IsWritten n × (bytes ≡ with_lf (noted n.0 n.1))

@@ -54,6 +54,13 @@ impl Clock {
         };
         shown_of(self.last)
     }
+
+    /// The nanoseconds from the start of the last record; 0 if there was none.
+    pub fn last(&self) -> u64
+        ensures { result ≡ shown self.now.last }
+    {
+        shown_of(self.last)
+    }
 }
 
 /// From what the times of a log count, by its first one.

@@ -1,6 +1,6 @@
 //! The second reading of a log: the lines of its events.
 use crate::dialects::{Absent, Dialect, Limited};
-use crate::event::{At, LoggedEvent, Said};
+use crate::event::{LoggedEvent, Said};
 use crate::groups::{About, Group};
 use crate::handshake::{Keys, Turns};
 use crate::omission::Limit;
@@ -79,6 +79,7 @@ pub(crate) struct Probe {
 }
 
 /// Writes the lines of a trace, group by group.
+#[derive(Drop)]
 pub(crate) struct Conversion {
     pub(crate) terms: Terms,
     pub(crate) known: Known,
@@ -332,11 +333,11 @@ fn earlier(
     }
 }
 
-/// The latest time of events, or this one.
-pub(crate) fn latest_of(at: At, beside: &[LoggedEvent]) -> u64 {
-    let mut time = at.time;
-    for event in beside {
-        time = time.max(event.at.time);
+/// The latest time of events, or this one if it is later.
+pub(crate) fn latest_of(time: u64, events: &[LoggedEvent]) -> u64 {
+    let mut latest = time;
+    for event in events {
+        latest = latest.max(event.at.time);
     }
-    time
+    latest
 }

@@ -40,6 +40,7 @@ impl From<NoLine> for NoMore {
 }
 
 /// Reads a log for the second time.
+#[derive(Drop)]
 pub(crate) struct Converting {
     alloc: Global,
     head: Head,
@@ -102,7 +103,11 @@ impl Converting {
     }
 
     /// Takes a text that is not JSON, and that says nothing of packets: a report perhaps.
-    pub(crate) fn push_unread(&mut self, at: At) -> Result<(), NoLine> {
+    pub(crate) fn push_unread(&mut self, place: Place, is_report: bool) -> Result<(), NoLine> {
+        let at = self.cursor.pass(place);
+        if !is_report {
+            return Ok(());
+        }
         self.pass(LoggedEvent {
             at,
             said: Said::UnreadReport,
@@ -228,6 +233,16 @@ impl Converting {
         self.groups.end(is_torn, &mut self.ready)?;
         self.write_groups()?;
         self.conversion.end()?;
+        if let Some(retry) = self.retry {
+            self.warn_of(retry)?;
+        }
+        Ok(())
+    }
+
+    /// Tells that the trace begins after a Retry.
+    fn warn_of(&mut self, retry: Retry) -> Result<(), AllocError> {
+        let text = retry.text(self.alloc, self.sent_before)?;
+        self.conversion.writing.notes.warnings.push(text)?;
         Ok(())
     }
 }

@@ -1,10 +1,21 @@
 //! Events that belong together: a packet or a timer, and what the log says of it beside it.
+ghost use Rattle.std.specs.Prelude.{◌≡◌, ◌++◌, ◌∷◌, [], Bool, IfOk, List, OnOk, option_to_list};
+ghost use Rattle.std.specs.Prelude.{false, true};
+ghost use Rattle.qa_convert.specs.Gathering.{AreFit, BeginsWith, Cut, Goes, GoesOn, HandsLast};
+ghost use Rattle.qa_convert.specs.Gathering.{IsCut, IsLeft, IsOpen, IsSingle, IsSure, held};
+ghost use Rattle.qa_convert.specs.Groups as groups;
+ghost use Rattle.qa_convert.specs.Groups.{Ends, Gathers, IsGroup};
+ghost use Rattle.qa_convert.specs.Orders.{is_lost, is_sent};
+ghost use Rattle.qa_convert.specs.declared.groups.Group.{Group as AGroup};
+ghost use Rattle.qa_convert.specs.declared.groups.Takes.TheVariants as takes;
+
 use crate::dialects::Dialect;
 use crate::event::{At, Expiry, LoggedEvent, LostPacket, Said};
 use crate::packet::LoggedPacket;
 use qa_base::Space;
 use std::alloc::{AllocError, Global};
 use std::collections::VecDeque;
+use std::marker::Model;
 
 /// A packet, and where and when its record is.
 #[derive(Drop)]
@@ -65,12 +76,9 @@ struct Open {
     takes: Takes,
 }
 
-/// The groups of a log, up to the packet that closes the connection.
-///
-/// What a connection does once it is closing is no part of loss recovery, and neither is the packet
-/// by which it closes: it may be sent whatever the window is.
+/// Gathers the events of a log in groups, up to the packet that closes the connection.
 #[derive(Drop)]
-pub(crate) struct Groups {
+struct Gathering {
     alloc: Global,
     dialect: Dialect,
     open: Option<Open>,
@@ -83,7 +91,10 @@ pub(crate) struct Groups {
 
 impl Takes {
     /// Whether it takes this event.
-    fn has(self, said: &Said) -> bool {
+    fn has(self, said: &Said) -> bool
+        ensures beside { result ≡ true → groups.is_beside said.now ≡ true }
+        ensures nothing { self ≡ takes.Nothing → result ≡ false }
+    {
         match said {
             Said::Report(_) => self != Takes::Nothing,
             Said::State(_) => self.has_states(),
@@ -96,12 +107,16 @@ impl Takes {
     }
 
     /// Whether it takes states, and timers that are set.
-    fn has_states(self) -> bool {
+    fn has_states(self) -> bool
+        ensures { self ≡ takes.Nothing → result ≡ false }
+    {
         self == Takes::OfSent || self == Takes::All
     }
 
     /// Whether it takes losses.
-    fn has_losses(self) -> bool {
+    fn has_losses(self) -> bool
+        ensures { self ≡ takes.Nothing → result ≡ false }
+    {
         self == Takes::ReportsAndLosses || self == Takes::All
     }
 }
@@ -119,10 +134,13 @@ impl LoggedPacket {
     }
 }
 
-impl Groups {
+impl Gathering {
     /// Before the first event. Takes no memory.
-    pub(crate) fn new(alloc: Global, dialect: Dialect) -> Groups {
-        Groups {
+    fn new(alloc: Global, dialect: Dialect) -> Gathering
+        ensures fit { AreFit result }
+        ensures held { held result ≡ groups.at_start dialect.metrics_stand_before }
+    {
+        Gathering {
             alloc,
             dialect,
             open: None,
@@ -134,11 +152,10 @@ impl Groups {
 
     /// Takes the next event, and appends the groups that are complete. After `AllocError` it is of
     /// no use.
-    pub(crate) fn push(
-        &mut self,
-        event: LoggedEvent,
-        out: &mut VecDeque<Group>,
-    ) -> Result<(), AllocError> {
+    fn push(&mut self, event: LoggedEvent, out: &mut VecDeque<Group>) -> Result<(), AllocError>
+        requires fit { AreFit self.old }
+        ensures { OnOk result (Goes self.old (event ∷ []) self.new out.old.items out.new.items) }
+    {
         if !self.dialect.metrics_stand_before {
             return self.take(event, out);
         }
@@ -153,7 +170,12 @@ impl Groups {
         &mut self,
         event: LoggedEvent,
         out: &mut VecDeque<Group>,
-    ) -> Result<(), AllocError> {
+    ) -> Result<(), AllocError>
+        requires fit { AreFit self.old }
+        requires report { self.old.report ≡ None }
+        requires first { self.old.dialect.metrics_stand_before ≡ true }
+        ensures { OnOk result (Goes self.old (event ∷ []) self.new out.old.items out.new.items) }
+    {
         if matches!(&event.said, Said::Report(_)) {
             self.report = Some(event);
             return Ok(());
@@ -167,7 +189,14 @@ impl Groups {
         report: LoggedEvent,
         event: LoggedEvent,
         out: &mut VecDeque<Group>,
-    ) -> Result<(), AllocError> {
+    ) -> Result<(), AllocError>
+        requires fit { AreFit self.old }
+        requires none { self.old.report ≡ None }
+        requires first { self.old.dialect.metrics_stand_before ≡ true }
+        requires report { groups.is_report report.said ≡ true }
+        ensures { OnOk result (Goes self.old (report ∷ event ∷ []) self.new out.old.items
+            out.new.items) }
+    {
         let LoggedEvent { at, said } = event;
         match said {
             Said::Sent(packet) => {
@@ -182,7 +211,15 @@ impl Groups {
     }
 
     /// Begins the group of a packet whose report is in front of it.
-    fn begin_reported(&mut self, report: LoggedEvent, packet: PacketAt) -> Result<(), AllocError> {
+    fn begin_reported(&mut self, report: LoggedEvent, packet: PacketAt) -> Result<(), AllocError>
+        requires fit { AreFit self.old }
+        requires none { self.old.report ≡ None }
+        requires first { self.old.dialect.metrics_stand_before ≡ true }
+        requires begun { self.old.open ≡ None }
+        requires report { groups.is_report report.said ≡ true }
+        ensures { OnOk result ((out : List AGroup) → Goes self.old
+            (report ∷ groups.sent packet ∷ []) self.new out out) }
+    {
         if self.is_closed {
             return Ok(());
         }
@@ -201,7 +238,13 @@ impl Groups {
     }
 
     /// Takes an event: the open group goes on with it, or it begins one.
-    fn take(&mut self, event: LoggedEvent, out: &mut VecDeque<Group>) -> Result<(), AllocError> {
+    fn take(&mut self, event: LoggedEvent, out: &mut VecDeque<Group>) -> Result<(), AllocError>
+        requires fit { AreFit self.old }
+        requires report { self.old.report ≡ None }
+        ensures goes { OnOk result (Goes self.old (event ∷ []) self.new out.old.items
+            out.new.items) }
+        ensures report { OnOk result (self.new.report ≡ None) }
+    {
         if self.is_closed {
             return Ok(());
         }
@@ -221,7 +264,14 @@ impl Groups {
     }
 
     /// Begins a group with an event.
-    fn begin(&mut self, event: LoggedEvent) -> Result<(), AllocError> {
+    fn begin(&mut self, event: LoggedEvent) -> Result<(), AllocError>
+        requires fit { AreFit self.old }
+        requires report { self.old.report ≡ None }
+        requires begun { self.old.open ≡ None }
+        ensures goes { OnOk result ((out : List AGroup) → Goes self.old (event ∷ []) self.new
+            out out) }
+        ensures report { OnOk result (self.new.report ≡ None) }
+    {
         if self.is_closed {
             return Ok(());
         }
@@ -238,7 +288,13 @@ impl Groups {
     }
 
     /// The open group is complete, if there is one.
-    fn close(&mut self, out: &mut VecDeque<Group>) -> Result<(), AllocError> {
+    fn close(&mut self, out: &mut VecDeque<Group>) -> Result<(), AllocError>
+        requires fit { AreFit self.old }
+        requires report { self.old.report ≡ None }
+        ensures goes { OnOk result (Goes self.old [] self.new out.old.items out.new.items) }
+        ensures report { OnOk result (self.new.report ≡ None) }
+        ensures begun { OnOk result (self.new.open ≡ None) }
+    {
         match self.open.take() {
             None => Ok(()),
             Some(open) => self.finish(open.group, out),
@@ -247,44 +303,141 @@ impl Groups {
 
     /// A group is complete: the one before it is appended. Of packets that were sent only those
     /// before the one that closes are kept.
-    fn finish(&mut self, group: Group, out: &mut VecDeque<Group>) -> Result<(), AllocError> {
-        let kept = if group.closes() {
-            self.is_closed = true;
-            group.before_closing(self.alloc)?
-        } else {
-            Some(group)
-        };
-        let Some(kept) = kept else {
-            return Ok(());
-        };
-        match self.last.replace(kept) {
+    fn finish(&mut self, group: Group, out: &mut VecDeque<Group>) -> Result<(), AllocError>
+        requires fit { AreFit self.old }
+        requires report { self.old.report ≡ None }
+        requires begun { self.old.open ≡ None }
+        requires unclosed { self.old.is_closed ≡ false }
+        requires group { IsGroup group }
+        requires single { IsSingle self.old.dialect.metrics_stand_before group.about
+            group.beside.items }
+        ensures goes { OnOk result (Goes self.old
+            (groups.events_of self.old.dialect.metrics_stand_before group) self.new out.old.items
+            out.new.items) }
+        ensures report { OnOk result (self.new.report ≡ None) }
+        ensures begun { OnOk result (self.new.open ≡ None) }
+    {
+        if !group.closes() {
+            return self.keep(group, out);
+        }
+        self.is_closed = true;
+        match group.before_closing(self.alloc)? {
             None => Ok(()),
-            Some(last) => {
-                out.push_back(last)?;
-                Ok(())
-            }
+            Some(left) => self.keep(left, out),
         }
     }
 
-    /// The log ends. If it is torn off, more may have followed of the last group.
-    pub(crate) fn end(
-        &mut self,
-        is_torn: bool,
-        out: &mut VecDeque<Group>,
-    ) -> Result<(), AllocError> {
-        if let Some(report) = self.report.take() {
-            self.take(report, out)?;
+    /// Keeps a group, and appends the one before it.
+    fn keep(&mut self, group: Group, out: &mut VecDeque<Group>) -> Result<(), AllocError>
+        ensures last { OnOk result (self.new ≡ record self.old { last = Some group }) }
+        ensures out { OnOk result (out.new.items ≡ out.old.items
+            ++ option_to_list self.old.last) }
+    {
+        if let Some(last) = self.last.replace(group) {
+            out.push_back(last)?;
         }
+        Ok(())
+    }
+
+    /// The log ends. If it is torn off, more may have followed of the last group.
+    fn end(&mut self, is_torn: bool, out: &mut VecDeque<Group>) -> Result<(), AllocError>
+        requires fit { AreFit self.old }
+        ensures { OnOk result (Ends is_torn (held self.old) out.old.items out.new.items) }
+    {
+        self.take_report(out)?;
         self.close(out)?;
+        self.hand_last(is_torn, out)
+    }
+
+    /// Takes the report that is held, if there is one: no packet is behind it.
+    fn take_report(&mut self, out: &mut VecDeque<Group>) -> Result<(), AllocError>
+        requires fit { AreFit self.old }
+        ensures goes { OnOk result (Goes self.old [] self.new out.old.items out.new.items) }
+        ensures report { OnOk result (self.new.report ≡ None) }
+    {
+        match self.report.take() {
+            None => Ok(()),
+            Some(report) => self.take(report, out),
+        }
+    }
+
+    /// Appends the last group, or what is sure of it.
+    fn hand_last(&mut self, is_torn: bool, out: &mut VecDeque<Group>) -> Result<(), AllocError>
+        ensures { OnOk result (HandsLast is_torn self.old.is_closed self.old.last out.old.items
+            out.new.items) }
+    {
         let Some(last) = self.last.take() else {
             return Ok(());
         };
         if !is_torn || self.is_closed {
             out.push_back(last)?;
-        } else if let Some(kept) = last.without_end(self.alloc) {
+            return Ok(());
+        }
+        if let Some(kept) = last.without_end(self.alloc) {
             out.push_back(kept)?;
         }
         Ok(())
+    }
+}
+
+/// The groups of a log, up to the packet that closes the connection. Contracts see the events that
+/// are held, and whether the connection has closed.
+///
+/// What a connection does once it is closing is no part of loss recovery, and neither is the packet
+/// by which it closes: it may be sent whatever the window is.
+#[derive(Drop)]
+pub(crate) struct Groups {
+    gathering: Gathering,
+}
+
+impl Model for Groups {
+    ghost use Rattle.qa_convert.specs.Gathering.{AreFit, held};
+    ghost use Rattle.qa_convert.specs.Groups.{Held};
+
+    ghost Value = { Held };
+
+    ghost view = { λ g. held g.gathering };
+
+    ghost invariant = { λ g. AreFit g.gathering };
+}
+
+impl Groups {
+    /// Before the first event. Takes no memory.
+    pub(crate) fn new(alloc: Global, dialect: Dialect) -> Groups
+        ensures { result ≡ groups.at_start dialect.metrics_stand_before }
+    {
+        Groups {
+            gathering: Gathering::new(alloc, dialect),
+        }
+    }
+
+    /// Takes the next event, and appends the groups that are complete. `AllocError` comes if it is
+    /// out of memory; then events are lost, and it is of no use.
+    pub(crate) fn push(
+        &mut self,
+        event: LoggedEvent,
+        out: &mut VecDeque<Group>,
+    ) -> Result<(), AllocError>
+        ensures { OnOk result (Gathers self.old (event ∷ []) self.new out.old.items
+            out.new.items) }
+    {
+        match self.gathering.push(event, out) {
+            Ok(()) => Ok(()),
+            Err(fault) => {
+                self.gathering = Gathering::new(self.gathering.alloc, self.gathering.dialect);
+                Err(fault)
+            }
+        }
+    }
+
+    /// The log ends. If it is torn off, more may have followed of the last group. `AllocError`
+    /// comes if it is out of memory; then events are lost, and it is of no use.
+    pub(crate) fn end(&mut self, is_torn: bool, out: &mut VecDeque<Group>) -> Result<(), AllocError>
+        ensures { OnOk result (Ends is_torn self.old out.old.items out.new.items) }
+    {
+        let result = self.gathering.end(is_torn, out);
+        self.gathering = Gathering::new(self.gathering.alloc, self.gathering.dialect);
+        result
     }
 }
 
@@ -298,7 +451,10 @@ enum Next {
 
 impl Open {
     /// Goes on with an event, if it is of the group.
-    fn with(self, event: LoggedEvent, dialect: &Dialect) -> Result<Next, AllocError> {
+    fn with(self, event: LoggedEvent, dialect: &Dialect) -> Result<Next, AllocError>
+        requires { IsOpen dialect.now self }
+        ensures { IfOk result (GoesOn dialect.now self event) }
+    {
         if self.takes.has(&event.said) {
             let mut open = self;
             open.group.beside.push(event)?;
@@ -315,7 +471,10 @@ impl Open {
 
     /// Goes on with a packet that was sent, if it may be of the same datagram: it is in front of
     /// the reports, and may not be that of a probe timeout.
-    fn with_sent(self, packet: PacketAt, dialect: &Dialect) -> Result<Next, AllocError> {
+    fn with_sent(self, packet: PacketAt, dialect: &Dialect) -> Result<Next, AllocError>
+        requires { IsOpen dialect.now self }
+        ensures { IfOk result (GoesOn dialect.now self (groups.sent packet)) }
+    {
         let is_alone = dialect.metrics_stand_before || may_be_probe(&packet.packet, dialect);
         let mut open = self;
         if !is_alone && open.group.beside.is_empty() {
@@ -328,7 +487,10 @@ impl Open {
     }
 
     /// Goes on with a loss, if it may be of the same detection, which names packets downwards.
-    fn with_lost(self, lost: LostAt, dialect: &Dialect) -> Result<Next, AllocError> {
+    fn with_lost(self, lost: LostAt, dialect: &Dialect) -> Result<Next, AllocError>
+        requires { IsOpen dialect.now self }
+        ensures { IfOk result (GoesOn dialect.now self (groups.lost lost)) }
+    {
         let mut open = self;
         if dialect.losses_stand_before {
             if let About::Lost(losses) = &mut open.group.about {
@@ -348,7 +510,10 @@ impl Open {
     }
 
     /// Goes on with a packet that came, if losses of its space are in front of it.
-    fn with_received(self, packet: PacketAt, dialect: &Dialect) -> Result<Next, AllocError> {
+    fn with_received(self, packet: PacketAt, dialect: &Dialect) -> Result<Next, AllocError>
+        requires { IsOpen dialect.now self }
+        ensures { IfOk result (GoesOn dialect.now self (groups.received packet)) }
+    {
         let space = packet.packet.space;
         let Open { group, takes } = self;
         let Group { about, beside } = group;
@@ -374,14 +539,18 @@ impl Open {
 
 impl PacketAt {
     /// The event that it was sent.
-    fn sent(self) -> LoggedEvent {
+    fn sent(self) -> LoggedEvent
+        ensures { result ≡ groups.sent self }
+    {
         let PacketAt { at, packet } = self;
         let said = Said::Sent(packet);
         LoggedEvent { at, said }
     }
 
     /// The event that it came.
-    fn received(self) -> LoggedEvent {
+    fn received(self) -> LoggedEvent
+        ensures { result ≡ groups.received self }
+    {
         let PacketAt { at, packet } = self;
         let said = Said::Received(packet);
         LoggedEvent { at, said }
@@ -410,7 +579,12 @@ fn is_of(losses: &[LostAt], space: Space) -> bool {
 }
 
 /// What a group takes beside an event.
-fn takes_of(said: &Said, dialect: &Dialect) -> Takes {
+fn takes_of(said: &Said, dialect: &Dialect) -> Takes
+    ensures sent { dialect.now.metrics_stand_before ≡ true → is_sent said.now ≡ true
+        → result ≡ takes.Nothing }
+    ensures lost { dialect.now.losses_stand_before ≡ true → is_lost said.now ≡ true
+        → result ≡ takes.Nothing }
+{
     match said {
         Said::Sent(_) if !dialect.metrics_stand_before => Takes::OfSent,
         Said::Received(_) if dialect.losses_stand_before => Takes::OfSent,
@@ -422,7 +596,9 @@ fn takes_of(said: &Said, dialect: &Dialect) -> Takes {
 }
 
 /// What the group is about that begins with an event.
-fn about_of(alloc: Global, event: LoggedEvent) -> Result<About, AllocError> {
+fn about_of(alloc: Global, event: LoggedEvent) -> Result<About, AllocError>
+    ensures { IfOk result (BeginsWith event) }
+{
     let LoggedEvent { at, said } = event;
     match said {
         Said::Sent(packet) => {
@@ -443,7 +619,9 @@ fn about_of(alloc: Global, event: LoggedEvent) -> Result<About, AllocError> {
 
 impl Group {
     /// Whether a packet of it closes the connection.
-    fn closes(&self) -> bool {
+    fn closes(&self) -> bool
+        ensures { result ≡ groups.closes self.now }
+    {
         match &self.about {
             About::Sent(packets) => packets.iter().any(|packet| packet.packet.content.closes),
             About::Received(packet, _) => packet.packet.content.closes,
@@ -453,24 +631,23 @@ impl Group {
 
     /// The packets before the one by which the connection closes, without what was said then, if
     /// there are any; a packet that came, as it is.
-    fn before_closing(self, alloc: Global) -> Result<Option<Group>, AllocError> {
+    fn before_closing(self, alloc: Global) -> Result<Option<Group>, AllocError>
+        requires closes { groups.closes self ≡ true }
+        requires group { IsGroup self }
+        ensures { IfOk result (λ left. (first : Bool) → IsSingle first self.about self.beside.items
+            → IsLeft first (groups.events_of first self) left) }
+    {
         let Group { about, beside } = self;
         match about {
-            About::Sent(packets) => {
-                let kept = packets_before(alloc, packets)?;
-                if kept.is_empty() {
-                    return Ok(None);
-                }
-                let about = About::Sent(kept);
-                let beside = Vec::new(alloc);
-                Ok(Some(Group { about, beside }))
-            }
+            About::Sent(packets) => sent_before(alloc, packets),
             about => Ok(Some(Group { about, beside })),
         }
     }
 
     /// What is sure of the last group of a torn log, of which more may have followed.
-    fn without_end(self, alloc: Global) -> Option<Group> {
+    fn without_end(self, alloc: Global) -> Option<Group>
+        ensures { IsSure self result }
+    {
         let Group { about, .. } = self;
         match about {
             About::Sent(packets) => {
@@ -483,8 +660,24 @@ impl Group {
     }
 }
 
+/// The group of the packets before the first by which the connection closes, if there are any.
+fn sent_before(alloc: Global, packets: Vec<PacketAt>) -> Result<Option<Group>, AllocError>
+    ensures { IfOk result (IsCut packets.items) }
+{
+    let kept = packets_before(alloc, packets)?;
+    if kept.is_empty() {
+        return Ok(None);
+    }
+    Ok(Some(Group {
+        about: About::Sent(kept),
+        beside: Vec::new(alloc),
+    }))
+}
+
 /// The packets before the first by which the connection closes.
-fn packets_before(alloc: Global, packets: Vec<PacketAt>) -> Result<Vec<PacketAt>, AllocError> {
+fn packets_before(alloc: Global, packets: Vec<PacketAt>) -> Result<Vec<PacketAt>, AllocError>
+    ensures { IfOk result (λ kept. Cut packets.items kept.items) }
+{
     let mut kept = Vec::new(alloc);
     for packet in packets {
         if packet.packet.content.closes {

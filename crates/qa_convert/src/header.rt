@@ -111,6 +111,29 @@ impl From<RangeFault> for NoHeader {
 }
 
 impl Choices {
+    /// Those that leave all but the version of the format to what is known of the log.
+    pub fn of(format: Format) -> Choices {
+        Choices {
+            format,
+            timer_late: None,
+            refresh_min_rtt: None,
+            report_slack_us: None,
+            report_slack_bytes: None,
+            unit: None,
+            controller: None,
+            window_overshoot: None,
+            sample_eliciting_only: None,
+            packet_threshold: None,
+            timer_early_us: None,
+            loss_by_number: None,
+            threshold_counts: None,
+            reset_rtt: None,
+            latest_rtt_less_delay: None,
+            time_threshold_eighths: None,
+            recovery_by_order: None,
+        }
+    }
+
     /// The unit of the trace.
     pub(crate) fn unit(&self, dialect: &Dialect, survey: &Survey) -> TimeUnit {
         if self.format < Format::Three {
@@ -259,7 +282,7 @@ fn eighths_of(dialect: &Dialect, survey: &Survey) -> u64 {
 
 /// Whether a time threshold in millionths is another than this many eighths, however a log rounds
 /// it.
-fn is_other(threshold: u64, eighths: u64) -> bool {
+pub(crate) fn is_other(threshold: u64, eighths: u64) -> bool {
     let here = threshold.saturating_mul(8);
     let there = eighths.saturating_mul(MILLIONTHS);
     let off = if here < there {
@@ -281,8 +304,13 @@ fn limit_of(
     let mut limit = dialect.timer_late_us;
     if !by_packets && !logs_timers && survey.highest_pto_count.is_none() {
         limit = limit.max(TIMER_LATE_UNSEEN);
+        writing.find_unseen(limit)?;
     }
-    limit = limit.max(deadline_is_off_by(dialect, survey));
+    let off = deadline_is_off_by(dialect, survey);
+    if limit < off {
+        limit = off;
+        writing.find_off(survey.highest_pto_count.unwrap_or(0), limit)?;
+    }
     if is_past(dialect, survey, limit) {
         writing.omit(Omission::Limit)?;
         return Ok(None);

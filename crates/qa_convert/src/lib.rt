@@ -17,6 +17,7 @@ mod guess;
 mod handshake;
 mod header;
 mod law;
+mod lines;
 mod looking;
 mod losing;
 mod noted;
@@ -35,17 +36,21 @@ mod size;
 mod sizes;
 mod survey;
 mod surveying;
+mod telling;
+mod trace;
 mod validation;
 mod values;
 mod writing;
 
 pub use clock::Clock;
+pub use converting::NoMore;
 pub use dialects::{Absent, Dialect, GENERIC, Limited, dialect_named, dialect_of};
 pub use event::{
     At, Expiry, LoggedEvent, LostPacket, PeerParameters, RecoveryParameters, Report, Said,
 };
 pub use flight::{Flight, Flying};
 pub use guess::{Guess, put_guesses};
+pub use header::{Choices, Format, NoHeader};
 pub use law::{own_keys_are_passed_over, written_lines_are_read};
 pub use noted::{NotedFault, push_noted};
 pub use own::{OwnKey, OwnKeys, put_text};
@@ -53,3 +58,7 @@ pub use packet::{LoggedAck, LoggedPacket, NoEvent};
 pub use place::{Place, Stretch, put_stretch};
 pub use rounding::{Age, Delays, Estimate, Reports, Sample};
 pub use size::PacketSize;
+pub use survey::NoSurvey;
+pub use surveying::NoRecord;
+pub use trace::{Asked, FirstReading, NoTrace, SecondReading};
+pub use writing::NoLine;

@@ -197,7 +197,7 @@ impl Conversion {
     ) -> Result<(), NoLine> {
         self.write_lost(at.time, losses)?;
         if self.take_beside(beside) {
-            self.report(latest_of(at, beside))?;
+            self.report(latest_of(0, beside))?;
         }
         Ok(())
     }

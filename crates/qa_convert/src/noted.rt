@@ -7,7 +7,8 @@ ghost use Rattle.serde_json.specs.Written.{compact_text};
 ghost use Rattle.qa_convert.specs.OwnKeys.{AreOwn, joined, noted};
 ghost use Rattle.qa_convert.specs.declared.noted.NotedFault.TheVariants.{TooLong};
 ghost use Rattle.qa_format.specs.format.Lines.{line_limit};
-ghost use Rattle.qa_format.specs.format.Written.{line_fits};
+ghost use Rattle.qa_format.specs.format.Proper.{IsProperLine};
+ghost use Rattle.qa_format.specs.format.Written.{line_fits, written};
 
 use crate::own::OwnKeys;
 use qa_format::Line;
@@ -58,10 +59,32 @@ pub fn push_noted(
         ≡ out.old.items ++ (noted line.now (members_view own.entries) ++ 10 ∷ [])) }
     ensures short { OnOk result
         (length (noted line.now (members_view own.entries)) ≤ line_limit) }
+    ensures proper { OnOk result (IsProperLine line.now) }
     ensures too_long { IfErr result (λ fault. fault ≡ TooLong → (out.new.items ≡ out.old.items)
         × (line_limit < length (noted line.now (members_view own.entries)))) }
 {
     let text = write_line(alloc, line)?;
+    push_with(alloc, line, text.as_str(), own, out)?;
+    Ok(())
+}
+
+/// Appends the text of a line, with own keys behind its keys, and LF.
+fn push_with(
+    alloc: Global,
+    line: &Line,
+    text: &str,
+    own: OwnKeys,
+    out: &mut Vec<u8>,
+) -> Result<(), NotedFault>
+    requires text { text.now ≡ written line.now }
+    requires own { AreOwn (members_view own.entries) }
+    ensures ok { OnOk result (out.new.items
+        ≡ out.old.items ++ (noted line.now (members_view own.entries) ++ 10 ∷ [])) }
+    ensures short { OnOk result
+        (length (noted line.now (members_view own.entries)) ≤ line_limit) }
+    ensures too_long { IfErr result (λ fault. fault ≡ TooLong → (out.new.items ≡ out.old.items)
+        × (line_limit < length (noted line.now (members_view own.entries)))) }
+{
     if own.is_empty() || text.is_empty() {
         return push_line(text.as_bytes(), out);
     }

@@ -10,9 +10,16 @@ pub(crate) struct Counted<T> {
     pub(crate) count: u64,
 }
 
-/// How often each guess was made and each thing left out, in the order in which they came.
+/// How often each guess was made and each thing left out, in the order in which they came, and what
+/// else is told.
 #[derive(Drop)]
 pub(crate) struct Notes {
+    /// Why a refusal may be due to the reading of the log. The header of the trace has it too.
+    pub(crate) doubts: Vec<String>,
+    /// What the log says of its sender and the trace cannot.
+    pub(crate) warnings: Vec<String>,
+    /// What the first reading found.
+    pub(crate) findings: Vec<String>,
     pub(crate) guesses: Vec<Counted<Guess>>,
     pub(crate) omissions: Vec<Counted<Omission>>,
     pub(crate) limits: Vec<Limit>,
@@ -22,6 +29,9 @@ impl Notes {
     /// None. Takes no memory.
     pub(crate) fn new(alloc: Global) -> Notes {
         Notes {
+            doubts: Vec::new(alloc),
+            warnings: Vec::new(alloc),
+            findings: Vec::new(alloc),
             guesses: Vec::new(alloc),
             omissions: Vec::new(alloc),
             limits: Vec::new(alloc),

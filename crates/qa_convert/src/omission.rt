@@ -30,6 +30,14 @@ pub enum Omission {
 }
 
 impl Omission {
+    /// Whether it is a timer: it decides what may be sent, so it is told in any case.
+    pub(crate) fn is_of_timer(self) -> bool {
+        matches!(
+            self,
+            Omission::IdleTimer | Omission::BareTimer | Omission::OtherTimer
+        )
+    }
+
     /// What is said of it.
     pub fn text(self) -> &'static str {
         match self {

@@ -11,22 +11,23 @@ ghost use Rattle.serde_json.specs.View.{members_view};
 ghost use Rattle.qa_format.specs.declared.line.Line.TheVariants as lines;
 
 use crate::guess::{Guess, put_guesses};
-use crate::noted::{NotedFault, push_noted};
-use crate::own::{OwnKey, OwnKeys, put_ranges, put_text};
+use crate::lines::{EventLines, HeaderLine};
+use crate::noted::NotedFault;
+use crate::own::{OwnKey, OwnKeys, put_if_ascii, put_ranges, put_text, put_texts};
 use crate::place::{Place, Stretch, put_stretch};
-use qa_base::{Event, Space, Spans, TimeUnit};
-use qa_format::Line;
+use qa_base::{Event, Header, Space, Spans, TimeUnit};
 use std::alloc::{AllocError, Global};
 
 /// The lines that were written, and what is said with the next one.
+#[derive(Drop)]
 pub(crate) struct Output {
     alloc: Global,
     /// The unit of the trace.
     unit: TimeUnit,
     /// Whether each line says where in the log it is from.
     has_places: bool,
-    /// The text of the lines.
-    pub(crate) text: Vec<u8>,
+    /// The lines of events.
+    pub(crate) text: EventLines,
     /// What was guessed for the next line, in the order in which it was.
     guesses: Vec<Guess>,
 }
@@ -34,7 +35,7 @@ pub(crate) struct Output {
 impl Output {
     /// No lines yet. Takes no memory.
     pub(crate) fn new(alloc: Global, unit: TimeUnit, has_places: bool) -> Output
-        ensures text { result.text.items ≡ [] }
+        ensures text { result.text ≡ [] }
         ensures guesses { result.guesses.items ≡ [] }
         ensures unit { result.unit ≡ unit }
         ensures places { result.has_places ≡ has_places }
@@ -43,7 +44,7 @@ impl Output {
             alloc,
             unit,
             has_places,
-            text: Vec::new(alloc),
+            text: EventLines::new(alloc),
             guesses: Vec::new(alloc),
         }
     }
@@ -64,7 +65,7 @@ impl Output {
         ensures ok { OnOk result (self.new.guesses.items
             ≡ with_guess guess self.old.guesses.items) }
         ensures err { OnErr result (self.new.guesses.items ≡ self.old.guesses.items) }
-        ensures text { self.new.text.items ≡ self.old.text.items }
+        ensures text { self.new.text ≡ self.old.text }
         ensures unit { self.new.unit ≡ self.old.unit }
         ensures places { self.new.has_places ≡ self.old.has_places }
     {
@@ -93,7 +94,7 @@ impl Output {
         last: Place,
     ) -> Result<(), NotedFault>
         requires { fits event ≡ true }
-        ensures ok { OnOk result (self.new.text.items ≡ self.old.text.items
+        ensures ok { OnOk result (self.new.text ≡ self.old.text
             ++ (noted (lines.Event event) (own_members self.old.has_places first last
             self.old.guesses.items) ++ 10 ∷ [])) }
         ensures guesses { OnOk result (self.new.guesses.items ≡ []) }
@@ -101,9 +102,46 @@ impl Output {
         ensures places { self.new.has_places ≡ self.old.has_places }
     {
         let own = self.own_keys(first, last)?;
-        push_noted(self.alloc, &Line::Event(event), own, &mut self.text)?;
+        self.text.push(self.alloc, event, own)?;
         self.guesses.clear();
         Ok(())
+    }
+
+    /// The line of the header, with the dialect by which the log is read, with what was guessed for
+    /// it, and with what a reader of a refusal has to know, if there is anything.
+    ///
+    /// `TooLong` comes if the line is too long. After `OutOfMemory` it is of no use.
+    pub(crate) fn header(
+        &mut self,
+        header: Header,
+        dialect: &str,
+        doubts: &[String],
+    ) -> Result<HeaderLine, NotedFault>
+        ensures line { IfOk result (λ line. (own : Members) × AreOwn own
+            × (line ≡ noted (lines.Header header) own ++ 10 ∷ [])) }
+        ensures text { self.new.text ≡ self.old.text }
+        ensures unit { self.new.unit ≡ self.old.unit }
+        ensures places { self.new.has_places ≡ self.old.has_places }
+    {
+        let own = self.header_keys(dialect, doubts)?;
+        let line = HeaderLine::of(self.alloc, header, own)?;
+        self.guesses.clear();
+        Ok(line)
+    }
+
+    /// The own keys of the header.
+    fn header_keys(&self, dialect: &str, doubts: &[String]) -> Result<OwnKeys, AllocError>
+        ensures own { IfOk result (λ own. AreOwn (members_view own.entries)) }
+    {
+        let mut own = OwnKeys::new(self.alloc);
+        put_if_ascii(&mut own, self.alloc, OwnKey::Dialect, dialect)?;
+        if !self.guesses.is_empty() {
+            put_guesses(&mut own, self.alloc, &self.guesses)?;
+        }
+        if !doubts.is_empty() {
+            put_texts(&mut own, self.alloc, OwnKey::Note, doubts)?;
+        }
+        Ok(own)
     }
 
     /// Writes the line of an event that no record says: packets left the bytes in flight. The line
@@ -119,13 +157,13 @@ impl Output {
         numbers: &Spans,
     ) -> Result<(), NotedFault>
         requires { fits event ≡ true }
-        ensures ok { OnOk result ((own : Members) × AreOwn own × (self.new.text.items
-            ≡ self.old.text.items ++ (noted (lines.Event event) own ++ 10 ∷ []))) }
+        ensures ok { OnOk result ((own : Members) × AreOwn own × (self.new.text
+            ≡ self.old.text ++ (noted (lines.Event event) own ++ 10 ∷ []))) }
         ensures unit { self.new.unit ≡ self.old.unit }
         ensures places { self.new.has_places ≡ self.old.has_places }
     {
         let own = self.forgotten_keys(place, space, numbers)?;
-        push_noted(self.alloc, &Line::Event(event), own, &mut self.text)?;
+        self.text.push(self.alloc, event, own)?;
         self.guesses.clear();
         Ok(())
     }

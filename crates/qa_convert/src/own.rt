@@ -1,9 +1,10 @@
 //! The keys that a line has beside those of its table.
-ghost use Rattle.std.specs.Prelude.{◌≡◌, OnErr, OnOk, true};
+ghost use Rattle.std.specs.Prelude.{◌≡◌, IfOk, OnErr, OnOk, map, nat_lt, not, true};
+ghost use Rattle.std.specs.List.{AllByRecursion, list_any};
 ghost use Rattle.serde_json.specs.Data.{array, put, string};
-ghost use Rattle.serde_json.specs.View.{members_view};
-ghost use Rattle.qa_convert.specs.OwnKeys.{AreOwn, own_key_name};
-ghost use Rattle.qa_format.specs.format.Simple.{is_ascii};
+ghost use Rattle.serde_json.specs.View.{members_view, view};
+ghost use Rattle.qa_convert.specs.OwnKeys.{AreOwn, IsText, own_key_name};
+ghost use Rattle.qa_format.specs.format.Simple.{IsKept, is_ascii};
 ghost use Rattle.qa_format.specs.format.Written.{integer_pairs};
 
 use qa_base::Spans;
@@ -83,4 +84,81 @@ pub fn put_ranges(
 {
     let list = ranges_list(alloc, ranges)?;
     serde_json::put(keys, alloc, key.name(), list)
+}
+
+/// Puts a text at a key, if it is ASCII. `AllocError` comes if it is out of memory, and leaves the
+/// keys as they were.
+pub(crate) fn put_if_ascii(
+    keys: &mut OwnKeys,
+    alloc: Global,
+    key: OwnKey,
+    text: &str,
+) -> Result<(), AllocError>
+    requires own { AreOwn (members_view keys.old.entries) }
+    ensures own { AreOwn (members_view keys.new.entries) }
+{
+    if is_all_ascii(text) {
+        put_text(keys, alloc, key, text)
+    } else {
+        Ok(())
+    }
+}
+
+/// Puts a list of texts at a key, of those that are ASCII. `AllocError` comes if it is out of
+/// memory, and leaves the keys as they were.
+pub(crate) fn put_texts(
+    keys: &mut OwnKeys,
+    alloc: Global,
+    key: OwnKey,
+    texts: &[String],
+) -> Result<(), AllocError>
+    requires own { AreOwn (members_view keys.old.entries) }
+    ensures own { AreOwn (members_view keys.new.entries) }
+{
+    let list = list_of(alloc, texts)?;
+    serde_json::put(keys, alloc, key.name(), list)
+}
+
+/// The list of those texts that are ASCII.
+fn list_of(alloc: Global, texts: &[String]) -> Result<Value, AllocError>
+    ensures { IfOk result (λ list. IsKept (view list)) }
+{
+    let mut list = Vec::new(alloc);
+    for text in texts {
+        push_if_ascii(alloc, text.as_str(), &mut list)?;
+    }
+    Ok(Value::Array(list))
+}
+
+/// Appends a text, if it is ASCII.
+fn push_if_ascii(alloc: Global, text: &str, list: &mut Vec<Value>) -> Result<(), AllocError>
+    ensures { AllByRecursion IsText (map view list.old.items)
+        → OnOk result (AllByRecursion IsText (map view list.new.items)) }
+{
+    if is_all_ascii(text) {
+        list.push(Value::try_from_str(alloc, text)?)?;
+    }
+    Ok(())
+}
+
+/// Whether a text is ASCII.
+#[tactic(auto, using(crate::proofs::Ascii::none_above))]
+fn is_all_ascii(text: &str) -> bool
+    ensures { result ≡ is_ascii text.now }
+{
+    !has_other(text.as_bytes())
+}
+
+/// Whether some byte is not one of ASCII.
+fn has_other(bytes: &[u8]) -> bool
+    ensures { result ≡ list_any (λ b. not (nat_lt b 128)) bytes.now }
+{
+    bytes.iter().any(|byte| is_other(*byte))
+}
+
+/// Whether a byte is not one of ASCII.
+fn is_other(byte: u8) -> bool
+    ensures { result ≡ not (nat_lt byte 128) }
+{
+    !(byte < 128)
 }

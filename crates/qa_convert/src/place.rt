@@ -11,9 +11,10 @@ ghost use Rattle.qa_convert.specs.declared.own.OwnKey.TheVariants as keys_of;
 use crate::own::{OwnKey, OwnKeys, put_text};
 use itoa::Buffer;
 use std::alloc::{AllocError, Global};
+use std::fmt;
 
 /// Where a record of a log begins.
-#[derive(Clone, Copy)]
+#[derive(Clone, Copy, Debug, PartialEq, Eq)]
 pub enum Place {
     /// At this line, in a log that has a text a line.
     Line(u64),
@@ -85,6 +86,21 @@ impl Stretch {
             self.last.push(&mut text)?;
         }
         Ok(text)
+    }
+}
+
+impl fmt::Display for Place {
+    ghost use Rattle.std.specs.Prelude.{Some};
+    ghost use Rattle.qa_convert.specs.Places.{place_text};
+
+    ghost output = { λ place. Some (place_text place) };
+
+    #[tactic(auto, unfolding(crate::specs::Places::place_text))]
+    fn fmt<W: fmt::Write>(&self, f: &mut fmt::Formatter<W>) -> fmt::Result {
+        match self {
+            Place::Line(number) => write!(f, "line {number}"),
+            Place::Byte(number) => write!(f, "byte {number}"),
+        }
     }
 }
 

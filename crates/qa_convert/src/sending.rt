@@ -128,7 +128,7 @@ impl Conversion {
         };
         if is_reported {
             self.forget(last.at)?;
-            self.report(latest_of(last.at, beside))?;
+            self.report(latest_of(last.at.time, beside))?;
         }
         if is_late {
             self.keys.discard_initial(&mut self.writing, last.at)?;

@@ -100,6 +100,17 @@ impl Cursor {
         let at = At { place, index, time };
         Ok(Some(Named { name, at }))
     }
+
+    /// Passes over the next record, which is not JSON; its time is that of the one before.
+    pub(crate) fn pass(&mut self, place: Place) -> At {
+        let index = self.index;
+        self.index = self.index.saturating_add(1);
+        At {
+            place,
+            index,
+            time: self.clock.last(),
+        }
+    }
 }
 
 /// Reads a log for the first time.
@@ -134,6 +145,11 @@ impl Surveying {
             Err(JsonError::Invalid) => Err(NoRecord::NotJson),
             Err(_) => Err(NoRecord::OutOfMemory),
         }
+    }
+
+    /// Passes over a text that is not JSON, and that says nothing of packets.
+    pub(crate) fn push_unread(&mut self, place: Place) {
+        self.cursor.pass(place);
     }
 
     /// Looks at the next record.

@@ -46,6 +46,7 @@ impl From<NotedFault> for NoLine {
 }
 
 /// What was written so far, and what the lines leave in flight.
+#[derive(Drop)]
 pub(crate) struct Writing {
     pub(crate) alloc: Global,
     pub(crate) output: Output,
@@ -82,6 +83,28 @@ impl Writing {
     /// Counts what is left out.
     pub(crate) fn omit(&mut self, omission: Omission) -> Result<(), AllocError> {
         self.notes.omit(omission, 1)
+    }
+
+    /// Finds that no probe timeout shows, and how late timers may be in microseconds.
+    pub(crate) fn find_unseen(&mut self, limit: u64) -> Result<(), AllocError> {
+        let text = format!(in self.alloc;
+            "no probe timeouts; of one that does not show, the next \
+            one is late, so timers may be {limit} microseconds late"
+        )?;
+        self.notes.findings.push(text)?;
+        Ok(())
+    }
+
+    /// Finds that a clock of whole milliseconds is off by so many timeouts in a row, and how late
+    /// timers may be in microseconds.
+    pub(crate) fn find_off(&mut self, count: u64, limit: u64) -> Result<(), AllocError> {
+        let text = format!(in self.alloc;
+            "whole milliseconds, and {count} probe timeouts in a \
+            row, each of which doubles by how much the deadline is off, so timers may be {limit} \
+            microseconds late"
+        )?;
+        self.notes.findings.push(text)?;
+        Ok(())
     }
 
     /// Whether the next line may have this time, in nanoseconds.

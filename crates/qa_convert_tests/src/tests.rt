@@ -4,5 +4,6 @@ mod dialects;
 mod flight;
 mod lines;
 mod packets;
+mod readings;
 mod rounding;
 mod said;

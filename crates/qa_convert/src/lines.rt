@@ -1,0 +1,121 @@
+//! The lines of a trace: that of its header, and those of events, which a reader of traces reads as
+//! what they say.
+ghost use Rattle.std.specs.Prelude.{◌≡◌, ◌++◌, ◌∷◌, [], OnErr, OnOk, IfOk, true};
+ghost use Rattle.qa_base.specs.values.Events.{fits};
+ghost use Rattle.qa_convert.specs.OwnKeys.{AreEventLines, AreOwn, IsHeaderLine, noted};
+ghost use Rattle.serde_json.specs.View.{members_view};
+ghost use Rattle.qa_format.specs.declared.line.Line.TheVariants as lines;
+
+use crate::noted::{NotedFault, push_noted};
+use crate::own::OwnKeys;
+use qa_base::{Event, Header};
+use qa_format::Line;
+use std::alloc::Global;
+use std::marker::Model;
+
+/// The text of lines of events.
+#[derive(Drop)]
+pub(crate) struct EventLines {
+    text: Vec<u8>,
+    /// The next line, until it is whole.
+    next: Vec<u8>,
+}
+
+impl Model for EventLines {
+    ghost use Rattle.std.specs.Prelude.{List, ℕ};
+    ghost use Rattle.qa_convert.specs.OwnKeys.{AreEventLines};
+
+    ghost Value = { List ℕ };
+
+    ghost view = { λ l. l.text.items };
+
+    ghost invariant = { λ l. AreEventLines l.text.items };
+}
+
+impl EventLines {
+    /// No lines. Takes no memory.
+    pub(crate) fn new(alloc: Global) -> EventLines
+        ensures { result ≡ [] }
+    {
+        EventLines {
+            text: Vec::new(alloc),
+            next: Vec::new(alloc),
+        }
+    }
+
+    /// Appends the line of an event, with own keys, and LF.
+    ///
+    /// Asks for an event that fits (`Event::fits`): no line says another. `TooLong` comes if the
+    /// line has more than 65,536 bytes, and `OutOfMemory` if it is out of memory; each leaves the
+    /// lines.
+    pub(crate) fn push(
+        &mut self,
+        alloc: Global,
+        event: Event,
+        own: OwnKeys,
+    ) -> Result<(), NotedFault>
+        requires fitting { fits event ≡ true }
+        requires own { AreOwn (members_view own.entries) }
+        ensures ok { OnOk result (self.new ≡ self.old
+            ++ (noted (lines.Event event) (members_view own.entries) ++ 10 ∷ [])) }
+        ensures err { OnErr result (self.new ≡ self.old) }
+    {
+        self.next.clear();
+        push_noted(alloc, &Line::Event(event), own, &mut self.next)?;
+        self.text.extend_from_slice(self.next.as_slice())?;
+        Ok(())
+    }
+
+    /// Their text.
+    pub(crate) fn as_slice(&self) -> &[u8]
+        ensures text { result.now ≡ self.now }
+        ensures lines { AreEventLines result.now }
+    {
+        self.text.as_slice()
+    }
+
+    /// Takes them away.
+    pub(crate) fn clear(&mut self)
+        ensures { self.new ≡ [] }
+    {
+        self.text.clear();
+    }
+}
+
+/// The line of a header, with its LF.
+#[derive(Drop)]
+pub(crate) struct HeaderLine {
+    text: Vec<u8>,
+}
+
+impl Model for HeaderLine {
+    ghost use Rattle.std.specs.Prelude.{List, ℕ};
+    ghost use Rattle.qa_convert.specs.OwnKeys.{IsHeaderLine};
+
+    ghost Value = { List ℕ };
+
+    ghost view = { λ l. l.text.items };
+
+    ghost invariant = { λ l. IsHeaderLine l.text.items };
+}
+
+impl HeaderLine {
+    /// The line of a header, with own keys. `TooLong` comes if it has more than 65,536 bytes.
+    pub(crate) fn of(alloc: Global, header: Header, own: OwnKeys) -> Result<HeaderLine, NotedFault>
+        requires { AreOwn (members_view own.entries) }
+        ensures { IfOk result (λ line. line
+            ≡ noted (lines.Header header) (members_view own.entries) ++ 10 ∷ []) }
+    {
+        let mut text = Vec::new(alloc);
+        push_noted(alloc, &Line::Header(header), own, &mut text)?;
+        Ok(HeaderLine { text })
+    }
+
+    /// Its text.
+    pub(crate) fn as_slice(&self) -> &[u8]
+        ensures text { result.now ≡ self.now }
+        ensures line { IsHeaderLine result.now }
+    {
+        self.text.as_slice()
+    }
+}

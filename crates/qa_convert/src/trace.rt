@@ -1,0 +1,230 @@
+//! A log as a trace: it is read twice, text by text.
+ghost use Rattle.qa_convert.specs.OwnKeys.{AreEventLines, IsHeaderLine};
+
+use crate::conversion::Terms;
+use crate::converting::{Converting, NoMore};
+use crate::dialects::{Dialect, GENERIC};
+use crate::header::{Choices, NoHeader};
+use crate::lines::HeaderLine;
+use crate::looking::Order;
+use crate::noted::NotedFault;
+use crate::notes::Notes;
+use crate::place::Place;
+use crate::survey::{NoSurvey, Survey};
+use crate::surveying::{NoRecord, Surveying};
+use crate::writing::{NoLine, Writing};
+use qa_base::{Controller, Role};
+use qa_qlog::Head;
+use std::alloc::{AllocError, Global};
+use thiserror::Error;
+
+/// Why a log gives no trace.
+#[derive(Clone, Copy, Debug, PartialEq, Eq, Error)]
+pub enum NoTrace {
+    /// It lacks what a trace needs.
+    #[error("{0}")]
+    Survey(NoSurvey),
+    /// It has no header.
+    #[error("{0}")]
+    Header(NoHeader),
+    /// Its header cannot be written.
+    #[error("{0}")]
+    Line(NotedFault),
+    /// Out of memory.
+    #[error("out of memory")]
+    OutOfMemory,
+}
+
+impl From<NoSurvey> for NoTrace {
+    fn from(fault: NoSurvey) -> Self {
+        NoTrace::Survey(fault)
+    }
+}
+
+impl From<NoHeader> for NoTrace {
+    fn from(fault: NoHeader) -> Self {
+        NoTrace::Header(fault)
+    }
+}
+
+impl From<NotedFault> for NoTrace {
+    fn from(fault: NotedFault) -> Self {
+        NoTrace::Line(fault)
+    }
+}
+
+impl From<AllocError> for NoTrace {
+    fn from(_refused: AllocError) -> Self {
+        NoTrace::OutOfMemory
+    }
+}
+
+/// What is asked of a trace.
+#[derive(Clone, Copy)]
+pub struct Asked {
+    /// Of which endpoint the log is.
+    pub role: Role,
+    /// The kind of log.
+    pub dialect: Dialect,
+    /// Which of its connections is converted, from 1 on.
+    pub connection: u64,
+    /// What its header says.
+    pub choices: Choices,
+    /// Whether each line says where in the log it is from.
+    pub has_places: bool,
+}
+
+/// The first reading of a log. Nothing is written yet: its end may decide its first line.
+#[derive(Drop)]
+pub struct FirstReading {
+    alloc: Global,
+    asked: Asked,
+    surveying: Surveying,
+}
+
+impl FirstReading {
+    /// Before the first record of a log with this head.
+    pub fn new(alloc: Global, head: Head, asked: Asked) -> FirstReading {
+        let survey = Survey::new(alloc, &asked.dialect, asked.role);
+        let surveying = Surveying::new(alloc, head, asked.connection, survey);
+        FirstReading {
+            alloc,
+            asked,
+            surveying,
+        }
+    }
+
+    /// Looks at the next text, which begins there. `NotJson` leaves all as it was; after any other
+    /// error it is of no use.
+    pub fn push(&mut self, text: &[u8], place: Place) -> Result<(), NoRecord> {
+        self.surveying.push(text, place)
+    }
+
+    /// Passes over a text that is not JSON, and that says nothing of packets.
+    pub fn push_unread(&mut self, place: Place) {
+        self.surveying.push_unread(place);
+    }
+
+    /// How many connections and paths the records have named so far; 0 if they name none.
+    pub fn connections(&self) -> u64 {
+        self.surveying.cursor.connections.count
+    }
+
+    /// The log ends: the second reading. `head` is that of the log again.
+    pub fn second(self, head: Head) -> Result<SecondReading, NoTrace> {
+        let FirstReading {
+            alloc,
+            asked,
+            surveying,
+        } = self;
+        let survey = surveying.survey;
+        survey.check()?;
+        let dialect = dialect_by(&survey, asked.dialect);
+        let unit = asked.choices.unit(&dialect, &survey);
+        let mut writing = Writing::new(alloc, unit, asked.has_places);
+        doubt(alloc, &survey, &asked.dialect, &dialect, &mut writing.notes)?;
+        let header = asked
+            .choices
+            .header(asked.role, &dialect, &survey, &mut writing)?;
+        let name = dialect.name;
+        let line = writing.output.header(header, name, &writing.notes.doubts)?;
+        let options = header.options();
+        writing.notes.warn(alloc, &dialect, &survey, options)?;
+        let terms = Terms {
+            dialect: Dialect {
+                time_threshold_eighths: options.time_threshold_eighths,
+                ..dialect
+            },
+            role: asked.role,
+            datagram: header.max_datagram_size(),
+            is_window_reported: options.controller == Controller::Reported,
+        };
+        let connection = asked.connection;
+        let converting = Converting::new(alloc, head, connection, terms, survey, writing);
+        Ok(SecondReading { line, converting })
+    }
+}
+
+/// The dialect of a log, in the order in which the log is.
+fn dialect_by(survey: &Survey, asked: Dialect) -> Dialect {
+    if asked.name == GENERIC.name {
+        return survey.looking.dialect(asked, survey.has_milliseconds);
+    }
+    survey.looking.corrected(asked).unwrap_or(asked)
+}
+
+/// Notes why the log may be misread, and what was found if it names no dialect.
+fn doubt(
+    alloc: Global,
+    survey: &Survey,
+    asked: &Dialect,
+    found: &Dialect,
+    notes: &mut Notes,
+) -> Result<(), AllocError> {
+    if asked.name == GENERIC.name {
+        notes.find(alloc, &survey.looking, found, survey.has_milliseconds)?;
+    } else if Order::of(found) != Order::of(asked) {
+        notes.doubt_order(alloc, asked, found)?;
+    }
+    if let Some(doubt) = survey.looking.doubt() {
+        notes.doubts.push(doubt.text(alloc)?)?;
+    }
+    Ok(())
+}
+
+/// The second reading of a log, by which its lines are written.
+#[derive(Drop)]
+pub struct SecondReading {
+    line: HeaderLine,
+    converting: Converting,
+}
+
+impl SecondReading {
+    /// Takes the next text, which begins there. After an error it is of no use but for the lines
+    /// that were written.
+    pub fn push(&mut self, text: &[u8], place: Place) -> Result<(), NoMore> {
+        self.converting.push(text, place)
+    }
+
+    /// Passes over a text that is not JSON, and that says nothing of packets: a report perhaps.
+    pub fn push_unread(&mut self, place: Place, is_report: bool) -> Result<(), NoLine> {
+        self.converting.push_unread(place, is_report)
+    }
+
+    /// The log ends, perhaps torn off.
+    pub fn end(&mut self, is_torn: bool) -> Result<(), NoLine> {
+        self.converting.end(is_torn)
+    }
+
+    /// The line of the header, with its LF. A reader of traces reads it as what it says
+    /// (`written_lines_are_read`).
+    pub fn header(&self) -> &[u8]
+        ensures { IsHeaderLine result.now }
+    {
+        self.line.as_slice()
+    }
+
+    /// The lines that were written since `clear`, each ended by LF. Each is that of an event, and a
+    /// reader of traces reads it as what it says (`written_lines_are_read`).
+    pub fn text(&self) -> &[u8]
+        ensures { AreEventLines result.now }
+    {
+        self.converting.conversion.writing.output.text.as_slice()
+    }
+
+    /// Takes those lines away.
+    pub fn clear(&mut self) {
+        self.converting.conversion.writing.output.text.clear();
+    }
+
+    /// What is told in any case, once the log has ended: why a refusal may be due to the reading of
+    /// the log or to what a trace cannot say, and timers that were left out.
+    pub fn told(&self, alloc: Global) -> Result<Vec<String>, AllocError> {
+        self.converting.conversion.writing.notes.told(alloc)
+    }
+
+    /// What was found, guessed and left out, once the log has ended.
+    pub fn notes(&self, alloc: Global) -> Result<Vec<String>, AllocError> {
+        self.converting.conversion.writing.notes.lines(alloc)
+    }
+}
