@@ -1,0 +1,110 @@
+//! The first reading of the records of a log.
+use crate::Reading;
+use crate::choosing::{Chosen, numbered};
+use crate::cutting::{LogText, Parts, Taker, Wants};
+use crate::fault::LogFault;
+use crate::log::Log;
+use crate::tracing::Trace;
+use crate::unread::{Instead, Unread};
+use qa_convert::{Asked, FirstReading, NoRecord, NoTrace};
+use qa_qlog::Head;
+
+/// The first reading of the records of a log. Nothing of a trace is written yet.
+#[derive(Drop)]
+pub struct Surveying {
+    parts: Parts,
+    chosen: Chosen,
+    records: Surveyed,
+}
+
+/// What was found of the records.
+#[derive(Drop)]
+struct Surveyed {
+    first: FirstReading,
+    unread: Unread,
+    /// Of which trace records are taken, by its number from 1.
+    trace: u64,
+    /// Whether the next text is the head.
+    is_at_head: bool,
+}
+
+impl Surveying {
+    /// Before the first part of a log, of which this trace is chosen, and has this head.
+    pub(crate) fn new(log: &Log, chosen: Chosen, head: Head, asked: Asked) -> Surveying {
+        Surveying {
+            parts: Parts::new(log.alloc, log.form),
+            chosen,
+            records: Surveyed {
+                first: FirstReading::new(log.alloc, head, asked),
+                unread: Unread::new(log.alloc),
+                trace: chosen.trace,
+                is_at_head: log.has_first_text(),
+            },
+        }
+    }
+
+    /// The log ends, or no more of it is needed: the second reading of its records, by which the
+    /// trace is written.
+    pub fn end(self, log: &Log) -> Result<Trace, LogFault> {
+        let Surveying {
+            parts,
+            chosen,
+            records,
+        } = self;
+        let (mut parts, mut records) = (parts, records);
+        parts.end(&mut records)?;
+        let Surveyed { first, unread, .. } = records;
+        let count = first.connections();
+        if numbered(count.max(1), Some(chosen.connection)).is_none() {
+            return Err(LogFault::NoConnection(count.max(1), chosen.connection));
+        }
+        match first.second(log.head(chosen.trace)?) {
+            Ok(second) => Ok(Trace::new(log, chosen, count, second)),
+            Err(fault) => Err(why(fault, &unread)),
+        }
+    }
+}
+
+/// Why there is no trace: a record that cannot be read, if the log ends there and lacks what a
+/// trace needs.
+fn why(fault: NoTrace, unread: &Unread) -> LogFault {
+    match (fault, unread.torn) {
+        (NoTrace::Survey(_), Some(torn)) if torn.is_broken => {
+            LogFault::Record(torn.place, NoRecord::NotJson)
+        }
+        (fault, _) => LogFault::from(fault),
+    }
+}
+
+impl Reading for Surveying {
+    fn feed(&mut self, part: &[u8]) -> Result<Wants, LogFault> {
+        self.parts.feed(part, &mut self.records)
+    }
+}
+
+impl Taker for Surveyed {
+    fn take(&mut self, text: LogText<'_>) -> Result<Wants, LogFault> {
+        if self.is_at_head || text.trace != self.trace {
+            self.is_at_head = false;
+            return Ok(Wants::More);
+        }
+        match self.first.push(text.bytes, text.place) {
+            Ok(()) => Ok(Wants::More),
+            Err(NoRecord::NotJson) => self.pass(text),
+            Err(fault) => Err(LogFault::of_record(text.place, fault)),
+        }
+    }
+}
+
+impl Surveyed {
+    /// Takes a text that is not JSON.
+    fn pass(&mut self, text: LogText<'_>) -> Result<Wants, LogFault> {
+        match self.unread.take(text)? {
+            Instead::Ends => Ok(Wants::Nothing),
+            Instead::Passes(_) => {
+                self.first.push_unread(text.place);
+                Ok(Wants::More)
+            }
+        }
+    }
+}

@@ -1,0 +1,164 @@
+//! The second reading of the records of a log, by which its trace is written.
+ghost use Rattle.std.specs.Prelude.{◌⊎◌};
+ghost use Rattle.qa_convert.specs.OwnKeys.{AreEventLines, IsHeaderLine};
+
+use crate::Reading;
+use crate::choosing::Chosen;
+use crate::cutting::{LogText, Parts, Taker, Wants};
+use crate::fault::LogFault;
+use crate::log::Log;
+use crate::unread::{Instead, Unread};
+use qa_convert::{NoLine, NoMore, NoRecord, SecondReading};
+use std::alloc::{AllocError, Global};
+
+/// The second reading of the records of a log, by which its trace is written.
+#[derive(Drop)]
+pub struct Trace {
+    alloc: Global,
+    parts: Parts,
+    chosen: Chosen,
+    /// How many connections and paths the log has.
+    connections: u64,
+    /// Whether the log is torn off, so far as it is one object.
+    is_torn: bool,
+    /// Whether the line of the header was not given away yet.
+    has_header: bool,
+    records: Written,
+}
+
+/// The records that were written.
+#[derive(Drop)]
+struct Written {
+    second: SecondReading,
+    unread: Unread,
+    /// Of which trace records are taken, by its number from 1.
+    trace: u64,
+    /// Whether the next text is the head.
+    is_at_head: bool,
+}
+
+impl Trace {
+    /// Before the first part of a log whose first reading this was.
+    pub(crate) fn new(log: &Log, chosen: Chosen, connections: u64, second: SecondReading) -> Trace {
+        Trace {
+            alloc: log.alloc,
+            parts: Parts::new(log.alloc, log.form),
+            chosen,
+            connections,
+            is_torn: log.torn_at.is_some(),
+            has_header: true,
+            records: Written {
+                second,
+                unread: Unread::new(log.alloc),
+                trace: chosen.trace,
+                is_at_head: log.has_first_text(),
+            },
+        }
+    }
+
+    /// The log ends, or no more of it is needed: the last lines are written. An error leaves the
+    /// lines that were written before it.
+    pub fn end(&mut self) -> Result<(), LogFault> {
+        self.parts.end(&mut self.records)?;
+        let is_torn = self.is_torn || self.records.unread.torn.is_some();
+        match self.records.second.end(is_torn) {
+            Ok(()) => Ok(()),
+            Err(NoLine::OutOfMemory) => Err(LogFault::OutOfMemory),
+            Err(fault) => Err(LogFault::LastLine(fault)),
+        }
+    }
+
+    /// The lines that were written and not given away, each ended by LF: first that of the header
+    /// by itself, and once that was given away those of events. A reader of traces reads each as
+    /// what it says.
+    pub fn text(&self) -> &[u8]
+        ensures { IsHeaderLine result.now ⊎ AreEventLines result.now }
+    {
+        if self.has_header {
+            self.records.second.header()
+        } else {
+            self.records.second.text()
+        }
+    }
+
+    /// Gives the lines away that `text` returns.
+    pub fn clear(&mut self) {
+        if self.has_header {
+            self.has_header = false;
+        } else {
+            self.records.second.clear();
+        }
+    }
+
+    /// What is told in any case, once the log has ended, a line each: what of it is not in the
+    /// trace, and why a refusal may be due to the reading of the log.
+    pub fn told(&self) -> Result<Vec<String>, AllocError> {
+        let mut told = self.records.unread.told(self.alloc)?;
+        if let Some(text) = others(self.alloc, self.chosen.count, self.chosen.number, "traces")? {
+            told.push(text)?;
+        }
+        let (count, number) = (self.connections, self.chosen.connection);
+        if let Some(text) = others(self.alloc, count, number, "connections or paths")? {
+            told.push(text)?;
+        }
+        for text in &self.records.second.told(self.alloc)? {
+            told.push(String::from_str(self.alloc, text.as_str())?)?;
+        }
+        Ok(told)
+    }
+
+    /// What was found, guessed and left out, once the log has ended, a line each.
+    pub fn notes(&self) -> Result<Vec<String>, AllocError> {
+        self.records.second.notes(self.alloc)
+    }
+}
+
+/// What is told if there are others.
+fn others(
+    alloc: Global,
+    count: u64,
+    number: u64,
+    what: &str,
+) -> Result<Option<String>, AllocError> {
+    if count < 2 {
+        return Ok(None);
+    }
+    let text = format!(in alloc;
+        "it has {count} {what}; this is number {number}, another by \
+        --connection N"
+    )?;
+    Ok(Some(text))
+}
+
+impl Reading for Trace {
+    fn feed(&mut self, part: &[u8]) -> Result<Wants, LogFault> {
+        self.parts.feed(part, &mut self.records)
+    }
+}
+
+impl Taker for Written {
+    fn take(&mut self, text: LogText<'_>) -> Result<Wants, LogFault> {
+        if self.is_at_head || text.trace != self.trace {
+            self.is_at_head = false;
+            return Ok(Wants::More);
+        }
+        match self.second.push(text.bytes, text.place) {
+            Ok(()) => Ok(Wants::More),
+            Err(NoMore::Record(NoRecord::NotJson)) => self.pass(text),
+            Err(fault) => Err(LogFault::of_end(text.place, fault)),
+        }
+    }
+}
+
+impl Written {
+    /// Takes a text that is not JSON.
+    fn pass(&mut self, text: LogText<'_>) -> Result<Wants, LogFault> {
+        let Instead::Passes(is_report) = self.unread.take(text)? else {
+            return Ok(Wants::Nothing);
+        };
+        match self.second.push_unread(text.place, is_report) {
+            Ok(()) => Ok(Wants::More),
+            Err(fault) => Err(LogFault::of_line(text.place, fault)),
+        }
+    }
+}
