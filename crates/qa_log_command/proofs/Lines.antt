@@ -1,0 +1,103 @@
+-- Lines that are written one after another, and what a failure leaves of them.
+use Rattle.std.proofs.Common.{◌≡◌, ◌∙◌, ◌⊎◌, inl, inr, ℕ, Bool, true, false, List, [], ◌∷◌, ◌++◌, Option, Result, Ok, Err, refl, sym, ap, append-nil}
+use Rattle.std.specs.Prelude.{IsErrAnd}
+use Rattle.std.proofs.lemmas.Grind.{flat_map-append}
+use Rattle.std.proofs.lemmas.List.{map-append}
+use Rattle.std.specs.List.{AllByRecursion}
+use Rattle.std.proofs.KnownBytes.{Appends-nil, Appends-trans}
+use Rattle.qa_check.proofs.Writing.{begins_behind}
+use Rattle.qa_check.specs.Failures.{failures_after}
+use Rattle.qa_commands.specs.Writes.{Writes}
+use Rattle.qa_convert.specs.OwnKeys.{AreEventLines, IsHeaderLine, IsWritten, IsWrittenEvent, Noted, noted, texts_of}
+use Rattle.qa_format.specs.format.Lines.{ended, with_lf}
+use Rattle.qa_log_command.specs.Failing.{ending_of, is_write, stops_at_write}
+use Rattle.qa_log_command.specs.Written.{AreLines, Leaves, Stream, WritesLines}
+use Rattle.qa_log_command.specs.declared.ending.Ending.{Ending}
+use Rattle.qa_log_command.specs.declared.ending.Ending.TheVariants as endings
+use Rattle.qa_log_command.specs.declared.failure.Failure.{Failure}
+use Rattle.qa_log_command.specs.declared.failure.Failure.TheVariants.{Open, Read, TooLong, Log, Write, OutOfMemory}
+use Rattle.qa_log_command.specs.declared.failure.Stopped.{Stopped}
+
+-- ---- lines
+
+all_events : (ns : List Noted) → AllByRecursion IsWrittenEvent ns → AllByRecursion IsWritten ns
+all_events [] all = tt
+all_events (n ∷ ns) all = (all.0.1, all_events ns all.1)
+
+all_more : (ns ms : List Noted) → AllByRecursion IsWritten ns → AllByRecursion IsWritten ms → AllByRecursion IsWritten (ns ++ ms)
+all_more [] ms all more = more
+all_more (n ∷ ns) ms all more = (all.0, all_more ns ms all.1 more)
+
+ended_more : (ns ms : List Noted) → ended (texts_of (ns ++ ms)) ≡ ended (texts_of ns) ++ ended (texts_of ms)
+ended_more ns ms =
+    ap ended (map-append (λ n. noted n.0 n.1) ns ms) ∙ flat_map-append with_lf (texts_of ns) (texts_of ms)
+
+-- what a trace returns as its text
+pub text_is_lines : (bytes : List ℕ) → IsHeaderLine bytes ⊎ AreEventLines bytes → AreLines bytes
+text_is_lines bytes (inl (n, of_header, written, is)) =
+    (n ∷ [], (written, tt), is ∙ sym (append-nil (with_lf (noted n.0 n.1))))
+text_is_lines bytes (inr (ns, all, is)) = (ns, all_events ns all, is)
+
+lines_more : (front rest : List ℕ) → AreLines front → AreLines rest → AreLines (front ++ rest)
+lines_more front rest (ns, all, is) (ms, more, are) =
+    (ns ++ ms, all_more ns ms all more, ap (λ k. k ++ rest) is ∙ ap (λ k. ended (texts_of ns) ++ k) are ∙ sym (ended_more ns ms))
+
+-- ---- lines that were written
+
+wrote_nothing : (a : Option (List ℕ)) (n : ℕ) → Writes false a a n n []
+wrote_nothing a n = record { wrote = Appends-nil a; counted = refl }
+
+-- a text after another
+wrote_more : (failed : Bool) (a b c : Option (List ℕ)) (n n1 n2 : ℕ) (front rest : List ℕ) → Writes false a b n n1 front → Writes failed b c n1 n2 rest
+    → Writes failed a c n n2 (front ++ rest)
+wrote_more false a b c n n1 n2 front rest first then = record {
+  wrote = Appends-trans a b c front rest first.wrote then.wrote;
+  counted = then.counted ∙ first.counted;
+}
+wrote_more true a b c n n1 n2 front rest first then = record {
+  wrote = begins_behind a b c front rest first.wrote then.wrote;
+  counted = then.counted ∙ ap (failures_after true) first.counted;
+}
+
+pub no_lines : (s : Stream) → WritesLines false s s
+no_lines s = ([], ([], tt, refl), wrote_nothing s.0 s.1)
+
+pub more_lines : (failed : Bool) (a b c : Stream) → WritesLines false a b → WritesLines failed b c → WritesLines failed a c
+more_lines failed a b c (front, front_lines, first) (rest, rest_lines, then) =
+    (front ++ rest, lines_more front rest front_lines rest_lines, wrote_more failed a.0 b.0 c.0 a.1 b.1 c.1 front rest first then)
+
+-- ---- what `?` hands on
+
+pub handed_on : {A : Type 0} (r : Result A Failure) (failure : Failure) → IsErrAnd r (λ f. f ≡ failure) → r ≡ Err failure
+handed_on (Ok a) failure is = absurd is
+handed_on (Err f) failure is = ap Err is
+
+pub stopped_by : {A : Type 0} (r : Result A Stopped) (failure : Failure) → IsErrAnd r (λ s. s.failure ≡ failure) → is_write failure ≡ false
+    → stops_at_write r ≡ false
+stopped_by (Ok a) failure is unwritten = absurd is
+stopped_by (Err s) failure is unwritten = ap is_write is ∙ unwritten
+
+-- ---- how the program ends
+
+failed_leaves : (failed : Bool) (old new : Stream) → WritesLines failed old new → Leaves endings.Failed old new
+failed_leaves failed old new (text, lines, wrote) = (failed, (text, wrote))
+
+by_failure : (failure : Failure) (old new : Stream) → WritesLines (is_write failure) old new → Leaves (ending_of failure) old new
+by_failure (Open e) old new wrote = failed_leaves false old new wrote
+by_failure (Read e) old new wrote = failed_leaves false old new wrote
+by_failure TooLong old new wrote = failed_leaves false old new wrote
+by_failure (Log fault) old new wrote = wrote
+by_failure (Write e) old new wrote = failed_leaves true old new wrote
+by_failure OutOfMemory old new wrote = failed_leaves false old new wrote
+
+-- it stopped by this failure, which decides how it ends, or for want of memory to say so
+pub stopped_leaves : (failure : Failure) (ending : Ending) (old new : Stream) → (ending ≡ endings.Failed) ⊎ (ending ≡ ending_of failure)
+    → WritesLines (is_write failure) old new → Leaves ending old new
+stopped_leaves failure ending old new (inl is) wrote = rw is (failed_leaves (is_write failure) old new wrote)
+stopped_leaves failure ending old new (inr is) wrote = rw is (by_failure failure old new wrote)
+
+-- the whole trace was written, and what is said of it or not
+pub traced_leaves : (ending : Ending) (old new : Stream) → (ending ≡ endings.Failed) ⊎ (ending ≡ endings.Written)
+    → WritesLines false old new → Leaves ending old new
+traced_leaves ending old new (inl is) wrote = rw is (failed_leaves false old new wrote)
+traced_leaves ending old new (inr is) (text, lines, wrote) = rw is (text, wrote)

@@ -1,0 +1,12 @@
+use Rattle.qa_log_command.proofs.Lines.{no_lines, stopped_by}
+use Rattle.qa_log_command.proofs.converting.convert.Goals as goal
+
+pub returns-in_err-bytes-clause-written : goal.returns-in_err-bytes-clause-written
+returns-in_err-bytes-clause-written g c =
+    rw (stopped_by c.from_residual.result c.in_err-bytes.field-0.0 c.from_residual.ensures.1 c.in_err-bytes.ensures.unwritten)
+    (no_lines (g.O.Sink.held c.args.output.now, g.O.Sink.write_failures c.args.output.now))
+
+pub returns-in_err-trace-clause-written : goal.returns-in_err-trace-clause-written
+returns-in_err-trace-clause-written g c =
+    rw (stopped_by c.from_residual-in_err-trace.result c.in_err-trace.field-0.0 c.from_residual-in_err-trace.ensures.1 c.in_err-trace.ensures)
+    (no_lines (g.O.Sink.held c.args.output.now, g.O.Sink.write_failures c.args.output.now))

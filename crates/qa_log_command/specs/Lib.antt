@@ -1,0 +1,3 @@
+pub mod Ending
+pub mod Failing
+pub mod Written
