@@ -230,7 +230,7 @@ class Taken(InFolder):
             (b'{"qlog_version":"0.3","traces":[]}', "it has no traces"),
             (sequence(), "no packet_sent of a QUIC packet with a size"),
             (sequence({"name": "transport:packet_sent", "time": "x"}), "line 2: time is no number"),
-            (b'{"traces": 5, "title": "x"', "byte 11: `[` expected"),
+            (b'{"traces": 5, "title": "x"', "traces is no list of objects"),
             (b"PK\x03\x04", "a zip archive: unpack it first"),
             (b'\x1e{"a":"\x1b[31m', "line 1: "),
         ):

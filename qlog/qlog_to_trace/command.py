@@ -19,7 +19,7 @@ from .conversion import Conversion
 from .detection import form_of
 from .dialects import BY_NAME, DIALECTS, GENERIC, Dialect, dialect_of
 from .errors import Unusable
-from .events import Event, events_of
+from .events import Event, Times, each_loss, events_of
 from .forms import Form
 from .header import DEFAULT_EIGHTHS, NO_LIMIT, Choices, options_of, write_header
 from .lines import PLACE, Line, Lines
@@ -50,7 +50,8 @@ UNSEEN = re.compile(
     "[\u034f\u115f\u1160\u17b4\u17b5\u180b-\u180f\u2800\u3164\ufe00-\ufe0f\uffa0"
     "\U000e0100-\U000e01ef]"
 )
-ENCODER = json.JSONEncoder(separators=(",", ":"))
+# The keys of a line are in the order of their bytes, so that those which begin with `x_` are last.
+ENCODER = json.JSONEncoder(separators=(",", ":"), sort_keys=True)
 
 DESCRIPTION = """Turns the qlog of one QUIC connection into a trace that `qaudit check` reads.
 
@@ -241,7 +242,11 @@ class Progress:
 
 
 def role_of(header: dict[str, object]) -> str | None:
-    """Of which endpoint a trace is, if of one."""
+    """Of which endpoint a trace is, if its header can be read and says it."""
+    try:
+        Times(header)
+    except Unusable:
+        return None
     vantage = header.get("vantage_point")
     kind, flow = vantage, None
     if isinstance(vantage, dict):
@@ -287,6 +292,9 @@ class Converter:
         # How many lines of the trace were written.
         self.written = 0
         headers = self._form.headers()
+        if len(headers) == 1:
+            # What is wrong with it is told; of several traces it is one that nobody can mean.
+            Times(headers[0])
         self._index, self._role, self._traces = choose(headers, args.vantage, args.connection)
         self._header = headers[self._index]
         # Of several traces --connection says which; of one trace, which of its connections.
@@ -346,7 +354,7 @@ class Converter:
         events = self._events("converted")
         if self._has_connections:
             events = Connections(self._chosen).over(events)
-        conversion.convert(events, lambda: self._form.torn_at is not None)
+        conversion.convert(each_loss(events), lambda: self._form.torn_at is not None)
         for what, count in self._form.left_out.items():
             if count:
                 self.notes.warnings.append(f"left out {count}: {what}")
@@ -356,7 +364,7 @@ class Converter:
         connections = Connections(self._chosen)
         events = connections.over(self._events("looked at"))
         try:
-            survey = Survey(events, dialect, self._role)
+            survey = Survey(each_loss(events), dialect, self._role)
         except Unusable:
             chosen_of(max(connections.count, 1), self._chosen, CONNECTIONS)
             if self._form.break_of_record:

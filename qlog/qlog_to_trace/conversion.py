@@ -5,7 +5,7 @@ from collections.abc import Callable, Iterable, Iterator
 from fractions import Fraction
 
 from .dialects import Absent, Dialect, Limited
-from .events import NANOSECONDS, SPACE_OF_NAME, SPACES, UNKNOWN_METRICS, Event
+from .events import NANOSECONDS, SPACE_OF_NAME, SPACES, UNKNOWN_METRICS, Ack, Event
 from .flight import Bare, Flight, as_ranges
 from .groups import Group, Groups, Kind
 from .handshake import Handshake
@@ -23,6 +23,8 @@ GAP_OF_LOSSES = 1_000_000
 # they are later by more than what a program takes (nanoseconds).
 LATE_BY_TIME = Fraction(6, 5)
 LATE_BY_PROGRAM = 10_000_000
+# The greatest integer that a line can say.
+LONGEST_DELAY = (1 << 64) - 1
 # How many probe timeouts there may be at once by a log's count. The timeout doubles each time.
 MOST_TIMEOUTS = 32
 KINDS_OF_TIMER = {"ack": "loss", "loss": "loss", "loss_timeout": "loss", "pto": "pto"}
@@ -153,7 +155,7 @@ class Conversion:
                 continue
             count = event.pto_count()
             self._pto_count = self._pto_count if count is None else count
-            if set(event.data) != {"pto_count"}:
+            if not event.has_only_pto_count:
                 found = True
                 self._metrics_at = event.place
                 self._take_values(event.metrics())
@@ -330,7 +332,7 @@ class Conversion:
         if event.space == "app" and not self._flight.bytes:
             # No probe timeout is set, so the PING is that of a program.
             return False
-        has_ranges = any(len(event.ranges(frame)) > 1 for frame in event.acks)
+        has_ranges = any(len(ack.ranges) > 1 for ack in event.acks)
         return every is None or event.number % every != 0 or not has_ranges
 
     def _write_sent(self, event: Event) -> None:
@@ -413,11 +415,11 @@ class Conversion:
             self._handshake.take_keys(event)
         held, in_flight = dict(self._metrics), self._flight.bytes
         is_reported = self._take_metrics(group.beside)
-        lost = lost or [it for it in group.beside if it.name == "packet_lost"]
+        lost = lost or [it for it in group.beside if it.name == "packet_lost" and it.space]
         if self._handshake.awaits_discard:
             self._settle_received(event, lost)
-        for frame in event.acks:
-            self._write_ack(event, frame, held, lost)
+        for ack in event.acks:
+            self._write_ack(event, ack, held, lost)
             lost = []
         self._lost_alone(lost)
         if is_reported and self._flight.bytes < in_flight:
@@ -440,7 +442,7 @@ class Conversion:
         acknowledgment of it can show, where the log has no timers."""
         if self._logs_timers:
             return []
-        tops = [high for frame in group.first.acks for _, high in group.first.ranges(frame)]
+        tops = [high for ack in group.first.acks for _, high in ack.ranges]
         for place, it in enumerate(group.beside):
             if it.name == "packet_lost" and not self._can_be_shown(it, group.first, tops):
                 later = group.beside[place:]
@@ -464,17 +466,17 @@ class Conversion:
         assert space
         gone = {
             (space, number)
-            for frame in event.acks
-            for number in self._flight.named(space, event.ranges(frame))
+            for ack in event.acks
+            for number in self._flight.named(space, ack.ranges)
         }
-        gone |= {(it.space, it.number) for it in lost if it.space}
+        gone |= {(str(it.space), it.number) for it in lost}
         change = -sum(self._flight.size_of(at, number) for at, number in gone)
         self._handshake.settle(event, self._metrics.get("bytes_in_flight"), change)
 
     def _write_ack(
-        self, event: Event, frame: dict[str, object], held: dict[str, int], lost: list[Event]
+        self, event: Event, ack: Ack, held: dict[str, int], lost: list[Event]
     ) -> None:
-        space, ranges = event.space, event.ranges(frame)
+        space, ranges = event.space, ack.ranges
         assert space
         if space in self._handshake.gone or not ranges:
             what = Omission.ACK_OF_NOTHING if not ranges else Omission.ACK_OF_GONE_SPACE
@@ -485,13 +487,13 @@ class Conversion:
         self._flight.take(space, self._flight.named(space, ranges))
         smoothed = self._metrics.get("smoothed_rtt", 0)
         time = event.time
-        if sent is None or time - sent < smoothed:
+        if sent is None or max(time - sent, 0) < smoothed:
             time = self._moment(event, space, top, lost)
-        delay = self._delay(event, frame)
+        delay = self._delay(event, ack)
         if sent is not None and self._dialect.is_read_late:
             time = self._arrival(time, sent, delay, held)
         if sent is not None and self._survey.has_cut_times:
-            delay = self._settled(time - sent, delay, held)
+            delay = self._settled(max(time - sent, 0), delay, held)
         self._lines.event(
             "ack",
             time,
@@ -517,7 +519,7 @@ class Conversion:
             return event.time
         gone = {it.number for it in lost if it.name == "packet_lost" and it.space == space}
         for number, sent in self._flight.below(space, top):
-            age = Age(event.time - sent, rtt, self._dialect.time_threshold_eighths)
+            age = Age(max(event.time - sent, 0), rtt, self._dialect.time_threshold_eighths)
             if age.is_young:
                 break
             if age.is_open and number not in gone:
@@ -541,12 +543,13 @@ class Conversion:
         self._notes.guess(Guess.ARRIVAL)
         return sent + latest
 
-    def _delay(self, event: Event, frame: dict[str, object]) -> int:
-        """The delay of an acknowledgment by the log, in nanoseconds."""
+    def _delay(self, event: Event, ack: Ack) -> int:
+        """The delay of an acknowledgment by the log, in nanoseconds, if it is no longer than a line
+        can say; else the longest."""
         if event.space not in self._dialect.delay_spaces:
             return 0
-        delay = event.nanoseconds(frame.get("ack_delay") or 0, "ack_delay")
-        return delay << (self._survey.delay_exponent if self._dialect.delay_is_encoded else 0)
+        shift = self._survey.delay_exponent if self._dialect.delay_is_encoded else 0
+        return min(ack.delay << shift, LONGEST_DELAY)
 
     def _settled(self, latest: int, delay: int, held: dict[str, int]) -> int:
         """The delay by which a sample was computed, as the reports before and after it show."""
@@ -569,7 +572,7 @@ class Conversion:
 
     def _is_shown(self, lost: list[Event], received: Event, beside: list[Event]) -> bool:
         """Whether an acknowledgment shows losses, by number or by age at the RTT behind it."""
-        ranges = [pair for frame in received.acks for pair in received.ranges(frame)]
+        ranges = [pair for ack in received.acks for pair in ack.ranges]
         if not ranges or received.time != lost[0].time:
             return False
         top = max(high for _, high in ranges)
@@ -580,10 +583,10 @@ class Conversion:
         rtt = max(values.get("latest_rtt", 0), values.get("smoothed_rtt", 0))
         space = str(lost[0].space)
         parts = self._dialect.time_threshold_eighths * rtt
+        ages = [max(received.time - self._flight.time_of(space, it), 0) for it in numbers]
         return any(
-            number + PACKET_THRESHOLD <= top
-            or PARTS_OF_RTT * (received.time - self._flight.time_of(space, number)) >= parts
-            for number in numbers
+            number + PACKET_THRESHOLD <= top or PARTS_OF_RTT * age >= parts
+            for number, age in zip(numbers, ages, strict=True)
         )
 
     # Losses and timers.

@@ -5,7 +5,7 @@ from typing import BinaryIO
 from .errors import Unusable
 from .forms import RECORD_SEPARATOR, Document, Form, Sequence
 from .netlog import Netlog, is_netlog
-from .scanner import DECODER, LONGEST_RECORD
+from .scanner import LONGEST_RECORD, decoded
 
 MARKS_OF_SEQUENCE = ("trace", "qlog_format", "file_schema", "serialization_format")
 # By their first bytes, files that are no log.
@@ -35,7 +35,7 @@ def form_of(file: BinaryIO) -> Form:
     if is_netlog(first):
         return Netlog(file)
     try:
-        header = DECODER.decode(first.decode())
+        header = decoded(first)
     except (ValueError, RecursionError):
         header = None
     if not isinstance(header, dict):

@@ -279,8 +279,9 @@ def dialect_of(header: dict[str, Any]) -> Dialect:
     vantage = header.get("vantage_point")
     name = vantage.get("name") if isinstance(vantage, dict) else vantage
     said = (header.get("title"), header.get("description"), name, header.get("code_version"))
-    text = " ".join(str(it) for it in said).lower()
-    schema = str(header.get("file_schema") or header.get("qlog_version") or "")
-    marked = [it for it in DIALECTS if any(mark in text for mark in it.marks)]
+    texts = [it.lower() for it in said if isinstance(it, str)]
+    schemas = (header.get("file_schema"), header.get("qlog_version"))
+    schema = next((it for it in schemas if isinstance(it, str) and it), "")
+    marked = [it for it in DIALECTS if any(mark in text for mark in it.marks for text in texts)]
     fitting = [it for it in marked if schema.startswith(it.schemas)]
     return next(iter(fitting or marked), GENERIC)

@@ -1,15 +1,29 @@
 """The events of a qlog, by whatever names and in whatever units its draft has them."""
 
 from collections.abc import Iterable, Iterator
-from decimal import Decimal
-from fractions import Fraction
 from functools import lru_cache
-from typing import Any
+from typing import Any, NamedTuple
 
 from .errors import Unusable
 from .forms import BROKEN_METRICS, Record, object_at
+from .numbers import LIMIT_OF_TIMES, NoNumberError, duration, instant, says, whole, written
 
 NANOSECONDS = {"ns": 1, "us": 1_000, "ms": 1_000_000}
+# By how many places the point moves to make nanoseconds of a unit.
+PLACES = {"ns": 0, "us": 3, "ms": 6}
+# The types of packets by the names of all drafts; each other name is that of another type.
+TYPES = {
+    "initial": "initial",
+    "handshake": "handshake",
+    "0rtt": "0rtt",
+    "0-rtt": "0rtt",
+    "0_rtt": "0rtt",
+    "1rtt": "1rtt",
+    "1-rtt": "1rtt",
+    "1_rtt": "1rtt",
+    "retry": "retry",
+}
+OTHER_TYPE = "other"
 SPACE_OF_PACKET = {
     "initial": "initial",
     "handshake": "handshake",
@@ -70,20 +84,10 @@ RTTS = {
     "smoothed_rtt": "smoothed_rtt",
     "rtt_variance": "rttvar",
 }
-BYTES = {
-    "congestion_window": "window",
-    "cwnd": "window",
-    "current_cwnd": "window",
-    "ssthresh": "ssthresh",
-    "bytes_in_flight": "bytes_in_flight",
-}
-WINDOWS = tuple(key for key, name in BYTES.items() if name == "window")
+# The first of these that is there counts.
+WINDOWS = ("congestion_window", "cwnd", "current_cwnd")
 # Nanoseconds of ten years: no connection is so old, so a time that is greater counts from an epoch.
 LEAST_OF_EPOCH = 10 * 365 * 24 * 3600 * 10**9
-GREATEST_DURATION = 10**18
-# Numbers of more decimal digits, or more bits, are not looked at.
-MOST_DIGITS = 40
-LONGEST_NUMBER = 256
 GREATEST_PACKET_NUMBER = (1 << 62) - 1
 GREATEST_SIZE = 65527
 GREATEST_BYTES = (1 << 64) - 1
@@ -91,17 +95,31 @@ GREATEST_BYTES = (1 << 64) - 1
 Ranges = list[list[int]]
 
 
+class Ack(NamedTuple):
+    """An ACK frame: its ranges in their order, its delay in nanoseconds as the log has it, and how
+    many packets it says that were marked by ECN-CE."""
+
+    ranges: Ranges
+    delay: int
+    marks: int
+
+
 class Event:
-    """An event: its time in nanoseconds from the start, its name without a category, its data."""
+    """An event: its time in nanoseconds from the start, its name without a category, its data.
+
+    What its data say is read once it is asked for. The first reading asks for all of it, so that a
+    log is refused before a line of its trace is written.
+    """
 
     __slots__ = (
         "index",
         "place",
         "time",
-        "scale",
+        "places",
         "name",
         "data",
         "header",
+        "packet_type",
         "space",
         "connection",
         "is_size_guessed",
@@ -111,6 +129,8 @@ class Event:
         "_kinds",
         "_acks",
         "_size",
+        "_metrics",
+        "_count",
     )
 
     def __init__(self, place: str, time: int, name: str, data: dict[str, Any]) -> None:
@@ -119,17 +139,24 @@ class Event:
         self.index = 0
         # The connection and path of which it is, if it names one.
         self.connection: object = None
-        # How many nanoseconds its durations count.
-        self.scale = NANOSECONDS["ms"]
+        # How many zeros of nanoseconds its durations have.
+        self.places = PLACES["ms"]
         # The header of the packet; some logs have its keys beside.
         header = data.get("header")
         self.header: dict[str, Any] = header if isinstance(header, dict) else data
-        kind = self.header.get("packet_type") or data.get("packet_type") or data.get("type") or ""
-        self.space = space_of_packet(str(kind)) if kind else None
+        kind = self.header.get("packet_type")
+        if not says(kind):
+            kind = first_said(data.get("packet_type"), data.get("type"))
+        # The type of the packet, however it is written, if one is said.
+        self.packet_type = None if kind is None else type_of_packet(kind)
+        self.space = SPACE_OF_PACKET.get(self.packet_type or "")
         # What was asked for once.
         self._frames: list[dict[str, Any]] | None = None
         self._kinds: list[str] | None = None
-        self._acks: list[dict[str, Any]] | None = None
+        self._acks: list[Ack] | None = None
+        self._metrics: dict[str, int] | None = None
+        # The count of probe timeouts of a report that was joined with this one.
+        self._count: int | None = None
         # The size of the packet, once it was asked for or found by other values.
         self._size: int | None = None
         self.is_size_guessed = False
@@ -142,43 +169,39 @@ class Event:
         """What is wrong with the event."""
         return Unusable(f"{self.name}: {reason}", self.place)
 
-    def integer(self, value: Any, what: str, greatest: int = GREATEST_PACKET_NUMBER) -> int:
+    def integer(
+        self, value: Any, what: str, greatest: int = GREATEST_PACKET_NUMBER, least: int = 0
+    ) -> int:
         """A whole number that a log may write as a string or with a fraction of 0."""
-        number = value if type(value) is int else self._integer(value, what)
-        if not 0 <= number <= greatest:
-            is_long = number.bit_length() > LONGEST_NUMBER
-            raise self.error(f"{what} is {'out of range' if is_long else number}")
+        number = value if type(value) is int else self._whole(value, what)
+        if not least <= number <= greatest:
+            raise self.error(f"{what} is {number}")
         return number
 
-    def _integer(self, value: Any, what: str) -> int:
-        if isinstance(value, bool) or not isinstance(value, int | str | Decimal):
+    def _whole(self, value: Any, what: str) -> int:
+        if value is None:
             raise self.error(f"no {what}")
         try:
-            return int(as_number(Decimal(value)))
-        except (ArithmeticError, ValueError) as error:
-            raise self.error(f"{what} is no number") from error
+            return whole(value)
+        except NoNumberError as error:
+            raise self.error(f"{what} is {error}") from error
 
-    def nanoseconds(self, value: Any, what: str) -> int:
-        """A duration, rounded down."""
-        if type(value) is int and value >= 0:
-            found = value * self.scale
-        else:
-            try:
-                found = max(0, int(as_number(value) * self.scale))
-            except (ArithmeticError, TypeError, ValueError) as error:
-                raise self.error(f"{what} is no number") from error
-        if found > GREATEST_DURATION:
-            raise self.error(f"{what} is out of range")
-        return found
+    def duration(self, value: Any, what: str) -> int:
+        """A duration in nanoseconds, rounded down."""
+        return self.scaled(value, what, self.places)
 
-    def fraction(self, value: Any, what: str) -> Fraction:
-        """A number that need not be whole."""
+    def scaled(self, value: Any, what: str, places: int) -> int:
+        """A number that need not be whole, with so many of the digits behind its point."""
         try:
-            return Fraction(as_number(value))
-        except (ArithmeticError, TypeError, ValueError) as error:
-            raise self.error(f"{what} is no number") from error
+            return duration(value, places)
+        except NoNumberError as error:
+            raise self.error(f"{what} is {error}") from error
 
     # Packets.
+
+    def check_packet(self) -> None:
+        """Reads what a packet of a space says, whether it is used or not."""
+        _ = self.number, self.has_size, self.acks
 
     @property
     def number(self) -> int:
@@ -188,16 +211,13 @@ class Event:
         return self.integer(number, "packet_number")
 
     @property
-    def packet_type(self) -> str:
-        """The type of the packet, however it is written."""
-        kind = self.header.get("packet_type") or self.data.get("packet_type")
-        return plain(str(kind or self.data.get("type") or ""))
-
-    @property
     def _said_size(self) -> Any:
-        raw = self.data.get("raw") or {}
-        size = raw.get("length") if isinstance(raw, dict) else None
-        return size or self.header.get("packet_size") or self.data.get("packet_size") or size
+        raw = self.data.get("raw")
+        length = raw.get("length") if isinstance(raw, dict) else None
+        if says(length):
+            return length
+        found = first_said(self.header.get("packet_size"), self.data.get("packet_size"))
+        return length if found is None else found
 
     @property
     def has_size(self) -> bool:
@@ -206,9 +226,7 @@ class Event:
             said = self._said_size
             if said is None:
                 return False
-            self._size = self.integer(said, "raw.length", GREATEST_SIZE)
-            if self._size == 0:
-                raise self.error("raw.length is 0")
+            self._size = self.integer(said, "raw.length", GREATEST_SIZE, 1)
         return True
 
     @property
@@ -227,7 +245,8 @@ class Event:
     def frames(self) -> list[dict[str, Any]]:
         """The frames of the packet."""
         if self._frames is None:
-            frames = self.data.get("frames") or []
+            frames = self.data.get("frames")
+            frames = frames if says(frames) else []
             if not isinstance(frames, list) or not all(isinstance(it, dict) for it in frames):
                 raise self.error("frames is no list of objects")
             self._frames = frames
@@ -237,18 +256,40 @@ class Event:
     def frame_types(self) -> list[str]:
         """The kinds of its frames, in their order."""
         if self._kinds is None:
-            self._kinds = [
-                kind_of_frame(str(it.get("frame_type") or it.get("type"))) for it in self.frames
-            ]
+            self._kinds = [kind_of_frame(it) for it in self.frames]
         return self._kinds
 
     @property
-    def acks(self) -> list[dict[str, Any]]:
-        """Its ACK frames."""
+    def acks(self) -> list[Ack]:
+        """Its ACK frames, if it is of a space."""
         if self._acks is None:
-            kinds = zip(self.frames, self.frame_types, strict=True)
-            self._acks = [it for it, kind in kinds if kind in ACK_FRAMES]
+            kinds = zip(self.frames, self.frame_types, strict=True) if self.space else ()
+            self._acks = [self._ack(it) for it, kind in kinds if kind in ACK_FRAMES]
         return self._acks
+
+    def _ack(self, frame: dict[str, Any]) -> Ack:
+        delay, marks = frame.get("ack_delay"), frame.get("ce")
+        return Ack(
+            self._ranges(frame),
+            self.duration(delay, "ack_delay") if says(delay) else 0,
+            self.integer(marks, "ce") if says(marks) else 0,
+        )
+
+    def _ranges(self, frame: dict[str, Any]) -> Ranges:
+        found = []
+        pairs = frame.get("acked_ranges")
+        pairs = pairs if says(pairs) else []
+        if not isinstance(pairs, list):
+            raise self.error("acked_ranges is no list")
+        for pair in pairs:
+            ends = pair if isinstance(pair, list) and pair else [pair]
+            if len(ends) > 2:
+                raise self.error(f"a range of {len(ends)} numbers")
+            low, high = self.integer(ends[0], "a range"), self.integer(ends[-1], "a range")
+            if low > high:
+                raise self.error(f"the range {low} to {high}")
+            found.append([low, high])
+        return found
 
     @property
     def is_eliciting(self) -> bool:
@@ -265,48 +306,53 @@ class Event:
         """Whether it closes the connection."""
         return "connection_close" in self.frame_types
 
-    def ranges(self, ack: dict[str, Any]) -> Ranges:
-        """The ranges of an ACK frame."""
-        found = []
-        pairs = ack.get("acked_ranges") or []
-        if not isinstance(pairs, list):
-            raise self.error("acked_ranges is no list")
-        for pair in pairs:
-            ends = pair if isinstance(pair, list) and pair else [pair]
-            if len(ends) > 2:
-                raise self.error(f"a range of {len(ends)} numbers")
-            low, high = self.integer(ends[0], "a range"), self.integer(ends[-1], "a range")
-            if low > high:
-                raise self.error(f"the range {low} to {high}")
-            found.append([low, high])
-        return found
-
     # Other events.
 
     def metrics(self) -> dict[str, int]:
         """The values of a metrics_updated by the names of the format, RTTs in nanoseconds."""
-        found = {}
-        for key, value in self.data.items():
-            if value is None:
-                continue
-            if key in RTTS:
-                found[RTTS[key]] = self.nanoseconds(value, key)
-            elif key in BYTES:
-                found[BYTES[key]] = self.integer(value, key, GREATEST_BYTES)
+        if self._metrics is None:
+            self._metrics = self._read_metrics()
+        return self._metrics
+
+    def _read_metrics(self) -> dict[str, int]:
+        data = self.data
+        found = {
+            name: self.duration(data[key], key)
+            for key, name in RTTS.items()
+            if data.get(key) is not None
+        }
+        window = next((it for it in WINDOWS if data.get(it) is not None), WINDOWS[0])
+        bytes_of = {"window": window, "ssthresh": "ssthresh", "bytes_in_flight": "bytes_in_flight"}
+        found |= {
+            name: self.integer(data[key], key, GREATEST_BYTES)
+            for name, key in bytes_of.items()
+            if data.get(key) is not None
+        }
         # The greatest integer stands for no threshold.
         if found.get("ssthresh", 0) > GREATEST_PACKET_NUMBER:
             del found["ssthresh"]
         return found
 
+    def join(self, before: "Event") -> None:
+        """Takes what a report before it says, and it does not."""
+        self._metrics = before.metrics() | self.metrics()
+        self._count = before.pto_count()
+
     @property
-    def has_window(self) -> bool:
-        """Whether a metrics_updated has a congestion window."""
-        return any(self.data.get(key) is not None for key in WINDOWS)
+    def has_sample(self) -> bool:
+        """Whether a metrics_updated has a sample of the round-trip time."""
+        values = self.metrics()
+        return bool(values.get("latest_rtt") or values.get("smoothed_rtt"))
 
     def pto_count(self) -> int | None:
-        """The count of probe timeouts, if the event has one."""
-        count = self.data.get("pto_count")
-        return None if count is None else self.integer(count, "pto_count")
+        """The count of probe timeouts, if it is a metrics_updated that has one."""
+        count = self.data.get("pto_count") if self.name == "metrics_updated" else None
+        return self._count if count is None else self.integer(count, "pto_count")
+
+    @property
+    def has_only_pto_count(self) -> bool:
+        """Whether a metrics_updated says nothing but that."""
+        return set(self.data) == {"pto_count"}
 
     @property
     def has_expired(self) -> bool:
@@ -327,7 +373,8 @@ class Event:
     @property
     def repeats(self) -> bool:
         """Whether a packet_lost names what a probe sends again, which is no loss."""
-        return self.name == "packet_lost" and self.data.get("trigger") == "pto_expired"
+        is_expired = self.data.get("trigger") == "pto_expired"
+        return is_expired and self.name == "packet_lost" and self.space is not None
 
     def key_space(self) -> str | None:
         """The space of whose keys it speaks."""
@@ -347,74 +394,73 @@ class Event:
         return self.retires_keys or self.name == "key_updated"
 
 
+def first_said(*values: Any) -> Any:
+    """The first of some values that says anything, if one does."""
+    return next((it for it in values if says(it)), None)
+
+
 @lru_cache(maxsize=256)
-def kind_of_frame(kind: str) -> str:
-    """The kind of a frame in one manner of writing."""
-    return kind.lower()
+def small(name: str) -> str:
+    """A name in small letters. One with letters other than those of ASCII is none that is known."""
+    return name.lower() if name.isascii() else name
 
 
-def plain(kind: str) -> str:
+def kind_of_frame(frame: dict[str, Any]) -> str:
+    """The kind of a frame in one manner of writing; empty if it is no text."""
+    kind = first_said(frame.get("frame_type"), frame.get("type"))
+    return small(kind) if isinstance(kind, str) else ""
+
+
+def type_of_packet(kind: Any) -> str:
     """The type of a packet in one manner of writing."""
-    return kind.lower().replace("-", "").replace("_", "")
-
-
-@lru_cache(maxsize=64)
-def space_of_packet(kind: str) -> str | None:
-    """The packet number space of a type of packet, however it is written; nothing for another."""
-    return SPACE_OF_PACKET.get(plain(kind))
-
-
-def as_number(value: Any) -> int | Decimal:
-    """A number that a log may write as a string, if it is none of very many digits."""
-    if isinstance(value, bool):
-        raise TypeError("a truth value is no number")
-    if isinstance(value, int):
-        return value
-    number = Decimal(value)
-    if abs(number.adjusted()) > MOST_DIGITS:
-        raise ArithmeticError("too many digits")
-    return number
+    return TYPES.get(small(kind), OTHER_TYPE) if isinstance(kind, str) else OTHER_TYPE
 
 
 class Times:
     """The times of a log: what they count from and in which unit they are."""
 
     def __init__(self, header: dict[str, Any]) -> None:
-        fields = header.get("event_fields") or []
+        fields = header.get("event_fields")
+        fields = fields if says(fields) else []
         if not isinstance(fields, list):
             raise Unusable("event_fields is no list")
-        self.fields = [str(it) for it in fields]
+        self.fields = [it if isinstance(it, str) else "" for it in fields]
         said = object_at(header, "common_fields").get("time_format")
-        form = str(said or self._form_of_field())
-        if form not in IS_DELTA:
+        form = said if says(said) else self._form_of_field()
+        if not isinstance(form, str) or form not in IS_DELTA:
             raise Unusable(f"time_format is {form}")
         self._is_delta = IS_DELTA[form]
         self._is_absolute = form in ("absolute", "time", "relative_to_epoch")
-        unit = str(object_at(header, "configuration").get("time_units", "ms"))
-        if unit not in NANOSECONDS:
+        unit = object_at(header, "configuration").get("time_units", "ms")
+        if not isinstance(unit, str) or unit not in PLACES:
             raise Unusable(f"time_units is {unit}")
-        self.scale = NANOSECONDS[unit]
+        self.places = PLACES[unit]
         # The time of the event before.
-        self.last = 0
+        self._last = 0
         self._start: int | None = None
 
     def _form_of_field(self) -> str:
         """The first drafts have it in the name of a field."""
         return next((it for it in self.fields if it in IS_DELTA), "absolute")
 
+    @property
+    def last(self) -> int:
+        """The time of the event before; 0 if there is none, or if it is before the start."""
+        return max(self._last, 0)
+
     def next(self, value: Any) -> int:
-        """The time of the next event."""
-        time = int(as_number(value) * self.scale)
+        """The time of the next event; 0 if it is before the start."""
+        found = instant(value, self.places)
         if self._start is None:
             # The first may count from an epoch also where the others count from the one before.
-            self._start = time if self._is_absolute or time >= LEAST_OF_EPOCH else 0
-            time -= self._start
+            self._start = found if self._is_absolute or found >= LEAST_OF_EPOCH else 0
+            found -= self._start
         elif self._is_delta:
-            time += self.last
+            found += self._last
         else:
-            time -= self._start
-        self.last = time
-        return max(time, 0)
+            found -= self._start
+        self._last = min(max(found, -LIMIT_OF_TIMES), LIMIT_OF_TIMES - 1)
+        return self.last
 
 
 def member_of(record: Record, fields: list[str]) -> dict[str, Any] | None:
@@ -439,8 +485,8 @@ def time_of(member: dict[str, Any], record: Record, times: Times) -> int:
         value = next((member[key] for key in IS_DELTA if key in member), 0)
     try:
         return times.next(value)
-    except (ArithmeticError, TypeError, ValueError) as error:
-        raise Unusable("time is no number", record.place) from error
+    except NoNumberError as error:
+        raise Unusable(f"time is {error}", record.place) from error
 
 
 def event_of(record: Record, times: Times) -> Event | None:
@@ -450,7 +496,10 @@ def event_of(record: Record, times: Times) -> Event | None:
     member = member_of(record, times.fields)
     if member is None:
         return None
-    name = member.get("name") or member.get("event") or member.get("event_type")
+    name = member.get("name")
+    if not says(name):
+        event = member.get("event")
+        name = event if says(event) else member.get("event_type")
     if not isinstance(name, str):
         return None
     time = time_of(member, record, times)
@@ -459,11 +508,22 @@ def event_of(record: Record, times: Times) -> Event | None:
         return None
     data = member.get("data")
     event = Event(record.place, time, known, data if isinstance(data, dict) else {})
-    event.scale = times.scale
+    event.places = times.places
     if "group_id" in member or "path_id" in event.data:
         # What tells apart connections in one trace, and the paths of multipath QUIC.
-        event.connection = f"{member.get('group_id')} {event.data.get('path_id')}"
+        group, path = member.get("group_id"), event.data.get("path_id")
+        event.connection = f"{written(group)} {written(path)}"
     return event
+
+
+def events_of(records: Iterable[Record], header: dict[str, Any]) -> Iterator[Event]:
+    """The events of which a trace tells, with their times counted from the start of the log."""
+    times = Times(header)
+    for index, record in enumerate(records):
+        event = event_of(record, times)
+        if event is not None:
+            event.index = index
+            yield event
 
 
 def losses_of(event: Event) -> Iterator[Event]:
@@ -473,17 +533,14 @@ def losses_of(event: Event) -> Iterator[Event]:
         raise event.error("it names no packets, so no trace can be made of this log")
     for header in packets:
         lost = Event(event.place, event.time, "packet_lost", {"header": header})
-        lost.connection = event.connection
+        lost.index = event.index
         yield lost
 
 
-def events_of(records: Iterable[Record], header: dict[str, Any]) -> Iterator[Event]:
-    """The events of which a trace tells, with their times counted from the start of the log."""
-    times = Times(header)
-    for index, record in enumerate(records):
-        event = event_of(record, times)
-        if event is None:
-            continue
-        for it in losses_of(event) if event.name == "packets_lost" else (event,):
-            it.index = index
-            yield it
+def each_loss(events: Iterable[Event]) -> Iterator[Event]:
+    """The events, with one for each packet that is lost."""
+    for event in events:
+        if event.name == "packets_lost":
+            yield from losses_of(event)
+        else:
+            yield event

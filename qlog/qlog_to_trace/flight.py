@@ -15,7 +15,7 @@ FIRST = 1_000
 def as_ranges(numbers: Iterable[int]) -> Ranges:
     """Numbers as ranges, in ascending order."""
     ranges: Ranges = []
-    for number in sorted(numbers):
+    for number in sorted(set(numbers)):
         if ranges and ranges[-1][1] == number - 1:
             ranges[-1][1] = number
         else:
@@ -43,6 +43,9 @@ class Numbers:
     def __contains__(self, number: int) -> bool:
         place = bisect_left(self._all, number)
         return place < len(self._all) and self._all[place] == number
+
+    def __iter__(self) -> Iterator[int]:
+        return iter(self._all)
 
     def add(self, number: int) -> None:
         """One more, which is not there yet."""
@@ -92,8 +95,8 @@ class Flight:
     """Sizes and times of the packets in flight by space and number, and their sum."""
 
     def __init__(self) -> None:
-        self._sizes: dict[str, dict[int, int]] = {space: {} for space in SPACES}
-        self._times: dict[str, dict[int, int]] = {space: {} for space in SPACES}
+        # Sizes, and when they were sent.
+        self._packets: dict[str, dict[int, tuple[int, int]]] = {space: {} for space in SPACES}
         self._numbers = {space: Numbers() for space in SPACES}
         self._bytes = dict.fromkeys(SPACES, 0)
         # The bytes in flight.
@@ -107,44 +110,40 @@ class Flight:
         """A packet was sent."""
         self.take(space, [number])
         self._numbers[space].add(number)
-        self._sizes[space][number] = size
-        self._times[space][number] = time
+        self._packets[space][number] = (size, time)
         self._bytes[space] += size
         self.bytes += size
 
     def take(self, space: str, numbers: Iterable[int]) -> int:
         """Packets leave; how many bytes they had."""
-        sizes = self._sizes[space]
-        gone = [number for number in dict.fromkeys(numbers) if number in sizes]
-        total = sum([sizes.pop(number) for number in gone])
+        packets = self._packets[space]
+        gone = [number for number in dict.fromkeys(numbers) if number in packets]
+        total = sum([packets.pop(number)[0] for number in gone])
         self._numbers[space].take(gone)
         self._bytes[space] -= total
         self.bytes -= total
-        if len(self._times[space]) > 2 * len(self._sizes[space]):
-            kept = self._sizes[space]
-            self._times[space] = {it: self._times[space][it] for it in kept}
         return total
 
     def clear(self, space: str) -> None:
         """The keys of a space are gone."""
-        self.take(space, list(self._sizes[space]))
+        self.take(space, list(self._packets[space]))
 
     def size_of(self, space: str, number: int) -> int:
         """The size of a packet in flight; 0 for another."""
-        return self._sizes[space].get(number, 0)
+        return self._packets[space].get(number, (0, 0))[0]
 
     def time_of(self, space: str, number: int) -> int:
         """When a packet in flight was sent; 0 for another."""
-        return self._times[space].get(number, 0)
+        return self._packets[space].get(number, (0, 0))[1]
 
     def below(self, space: str, top: int) -> Iterator[tuple[int, int]]:
-        """The packets in flight of a space, in the order of sending, up to the first that is not
-        below a number: their numbers, and when they were sent."""
-        times = self._times[space]
-        for number in self._sizes[space]:
+        """The packets in flight of a space that are below a number, ascending, and when they were
+        sent."""
+        packets = self._packets[space]
+        for number in self._numbers[space]:
             if number >= top:
                 return
-            yield number, times[number]
+            yield number, packets[number][1]
 
     def named(self, space: str, ranges: Ranges) -> list[int]:
         """The packets in flight whose numbers are in some range, ascending."""
@@ -153,17 +152,17 @@ class Flight:
     def first_of_sum(self, total: int) -> tuple[str, list[int]] | None:
         """A space and its first packets that have just so many bytes together, if there are any;
         no more than FIRST."""
-        for space, sizes in self._sizes.items():
+        for space, packets in self._packets.items():
             taken, held = [], 0
-            for number, size in islice(sizes.items(), FIRST + 1):
+            for number in islice(self._numbers[space], FIRST):
                 if held >= total:
                     break
                 taken.append(number)
-                held += size
+                held += packets[number][0]
             if held == total:
                 return space, taken
         return None
 
     def has(self, space: str) -> bool:
         """Whether a packet of the space is in flight."""
-        return bool(self._sizes[space])
+        return bool(self._packets[space])

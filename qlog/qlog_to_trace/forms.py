@@ -1,19 +1,17 @@
 """The forms in which a qlog is written: one JSON object, JSON-SEQ, and a JSON text a line."""
 
-import json
 from collections.abc import Iterator
 from collections.abc import Sequence as Several
 from typing import Any, BinaryIO, NamedTuple
 
-from .errors import Torn, Unusable
-from .scanner import DECODER, LONGEST_RECORD, Scanner, is_torn, reason_of
+from .cutter import Cutter
+from .errors import Unusable
+from .scanner import LONGEST_RECORD, PIECE, decoded, reason_of
 
 RECORD_SEPARATOR = b"\x1e"
 # What a record may name that decides what follows it; metrics decide only what is reported.
 NAMES_THAT_MATTER = (b"packet", b"timer", b"key_", b"parameters_set")
 BROKEN_METRICS = {"name": "metrics that are no JSON"}
-# How many traces one log may have.
-MOST_TRACES = 100_000
 
 
 class Record(NamedTuple):
@@ -105,11 +103,11 @@ class Sequence(Form):
         for number, text in self._texts():
             place = f"line {number}"
             try:
-                value = DECODER.decode(text.decode())
+                value = decoded(text)
             except (ValueError, RecursionError) as error:
                 if is_first:
-                    is_cut = not text.endswith(b"\n") and is_cut_short(error)
-                    raise Unusable("torn off" if is_cut else reason_of(error), place) from error
+                    why = reason_of(error) if is_whole(text) else "torn off"
+                    raise Unusable(why, place) from error
                 value = self._broken(place, text, error)
                 if self.torn_at:
                     return
@@ -118,7 +116,7 @@ class Sequence(Form):
 
     def _broken(self, place: str, text: bytes, error: Exception) -> object:
         """What stands for a record that is no JSON, as RFC 7464, section 2.3 goes on behind one."""
-        if not text.endswith(b"\n") and is_cut_short(error):
+        if not is_whole(text):
             self.torn_at = place
         elif any(name in text for name in NAMES_THAT_MATTER):
             self.torn_at, self.break_of_record = place, reason_of(error)
@@ -128,118 +126,76 @@ class Sequence(Form):
         return None
 
     def _texts(self) -> Iterator[tuple[int, bytes]]:
-        """The text of each record with the number of its first line."""
+        """The text of each record, with the number of its first line."""
+        number = 1
+        for text in self._pieces():
+            if text.strip():
+                yield number, text
+            number += text.count(b"\n")
+
+    def _pieces(self) -> Iterator[bytes]:
+        """What is between two marks: each with its LF, if that is the mark, and without 0x1E, which
+        marks where a record begins."""
+        mark = RECORD_SEPARATOR if self.is_marked else b"\n"
         self.file.seek(0)
-        return self._marked_texts() if self.is_marked else self._lines()
-
-    def _lines(self) -> Iterator[tuple[int, bytes]]:
-        for number, line in self._numbered():
-            if line.strip():
-                yield number, line
-
-    def _numbered(self) -> Iterator[tuple[int, bytes]]:
-        """The lines with their numbers, none of which is longer than a record may be."""
-        number = 0
-        while line := self.file.readline(LONGEST_RECORD + 1):
-            number += 1
-            self._check(len(line), number)
-            yield number, line
+        line, rest = 1, b""
+        while piece := self.file.read(PIECE):
+            *texts, rest = (rest + piece).split(mark)
+            for text in texts:
+                self._check(text, line)
+                yield text if self.is_marked else text + mark
+                line += text.count(b"\n") + (not self.is_marked)
+            self._check(rest, line)
+        yield rest
 
     @staticmethod
-    def _check(length: int, number: int) -> None:
+    def _check(text: bytes, line: int) -> None:
         """Whether a record is as long as one may be."""
-        if length > LONGEST_RECORD:
-            raise Unusable(f"a record of more than {LONGEST_RECORD:,} bytes", f"line {number}")
+        if len(text) > LONGEST_RECORD:
+            raise Unusable(f"a record of more than {LONGEST_RECORD:,} bytes", f"line {line}")
 
-    def _marked_texts(self) -> Iterator[tuple[int, bytes]]:
-        """A record goes to the next mark, over several lines if need be."""
-        start, text = 1, b""
-        for number, line in self._numbered():
-            pieces = line.split(RECORD_SEPARATOR)
-            text += pieces[0]
-            self._check(len(text), start)
-            for piece in pieces[1:]:
-                if text.strip():
-                    yield start, text
-                start, text = number, piece
-        if text.strip():
-            yield start, text
+
+def is_whole(text: bytes) -> bool:
+    """Whether the end of a record is in the log."""
+    return text.endswith(b"\n")
 
 
 class Document(Form):
     """One JSON object with a list of traces, each with a list of events."""
 
+    def __init__(self, file: BinaryIO) -> None:
+        super().__init__(file)
+        # How many traces are before those that have headers: of a key that comes twice the last one
+        # counts.
+        self._before = 0
+
     def headers(self) -> Several[dict[str, Any]]:
         """The header of each trace, wherever its keys stand; its events are passed over."""
-        found: list[dict[str, Any]] = []
-        shared: dict[str, Any] = {}
-        self._read(found, shared)
-        return Headers(shared, found)
-
-    def _read(self, found: list[dict[str, Any]], shared: dict[str, Any]) -> None:
-        """Reads all headers that there are before the log ends or is torn off."""
-        scanner = self._begin()
+        cutter = Cutter(self.file)
+        for _ in cutter.records():
+            pass
         try:
-            for key in scanner.members():
-                if key != "traces":
-                    shared[key] = scanner.value()
-                    continue
-                for _ in scanner.elements():
-                    if len(found) == MOST_TRACES:
-                        raise scanner.error(f"more than {MOST_TRACES:,} traces")
-                    found.append({})
-                    self._read_header(scanner, found[-1])
-        except Torn:
-            self.torn_at = scanner.place()
-
-    @staticmethod
-    def _read_header(scanner: Scanner, header: dict[str, Any]) -> None:
-        for key in scanner.members():
-            if key != "events":
-                header[key] = scanner.value()
-                continue
-            for _ in scanner.elements():
-                scanner.value(LONGEST_RECORD)
+            shared = decoded(cutter.skeleton)
+        except (ValueError, RecursionError) as error:
+            raise Unusable(f"beside its events it is {reason_of(error)}") from error
+        traces = shared.pop("traces", [])
+        if not isinstance(traces, list) or not all(isinstance(it, dict) for it in traces):
+            raise Unusable("traces is no list of objects")
+        self._before = max(cutter.traces - len(traces), 0)
+        return Headers(shared, traces)
 
     def events(self, index: int) -> Iterator[Record]:
         """The events of the trace with this index."""
-        scanner = self._begin()
-        try:
-            for key in scanner.members():
-                if key != "traces":
-                    scanner.value()
-                    continue
-                for number, _ in enumerate(scanner.elements()):
-                    yield from self._events_of_trace(scanner, number == index)
-        except Torn:
-            self.torn_at = scanner.place()
-
-    @staticmethod
-    def _events_of_trace(scanner: Scanner, is_asked: bool) -> Iterator[Record]:
-        for key in scanner.members():
-            if key != "events":
-                scanner.value()
-                continue
-            for _ in scanner.elements():
-                place = scanner.next_place() if is_asked else ""
-                value = scanner.value(LONGEST_RECORD)
-                if is_asked:
-                    yield Record(place, value)
-
-    def _begin(self) -> Scanner:
         self.torn_at = None
-        self.file.seek(0)
-        scanner = Scanner(self.file)
-        try:
-            first = scanner.peek()
-        except Torn:
-            raise Unusable("nothing but white space") from None
-        if first != "{":
-            raise Unusable("neither JSON-SEQ nor a JSON text a line nor one JSON object", "byte 0")
-        return scanner
-
-
-def is_cut_short(error: Exception) -> bool:
-    """Whether what is wrong with a text can be that its end is missing."""
-    is_cut = isinstance(error, json.JSONDecodeError) and is_torn(error)
-    return is_cut or isinstance(error, UnicodeDecodeError)
+        cutter, trace = Cutter(self.file), self._before + index + 1
+        for cut in cutter.records():
+            if cut.trace != trace:
+                continue
+            place = f"byte {cut.place}"
+            try:
+                value = decoded(cut.text)
+            except (ValueError, RecursionError) as error:
+                raise Unusable(reason_of(error), place) from error
+            yield Record(place, value)
+        if cutter.torn_at is not None:
+            self.torn_at = f"byte {cutter.torn_at}"

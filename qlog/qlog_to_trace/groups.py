@@ -102,6 +102,7 @@ class Groups:
         self._dialect = dialect
         # Whether the log is torn off, once its end was read.
         self._is_torn = is_torn
+        self._is_closed = False
 
     def __iter__(self) -> Iterator[Group]:
         last: Group | None = None
@@ -109,7 +110,7 @@ class Groups:
             if last:
                 yield last
             last = group
-        if last and self._is_torn():
+        if last and not self._is_closed and self._is_torn():
             last = last.without_end()
         if last:
             yield last
@@ -123,6 +124,7 @@ class Groups:
             if group.events:
                 yield group
             if is_closing:
+                self._is_closed = True
                 return
 
     def _group(self, event: Event) -> Group:

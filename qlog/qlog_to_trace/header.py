@@ -1,7 +1,6 @@
 """The header of a trace."""
 
 from dataclasses import dataclass
-from fractions import Fraction
 from typing import Any
 
 from .dialects import MICROSECONDS_OF_INITIAL_RTT, TIMER_LATE_UNSEEN, Dialect
@@ -20,15 +19,12 @@ PACKET_THRESHOLDS = range(3, 65_536)
 # names none, and how a log may round it.
 EIGHTHS = range(9, 33)
 DEFAULT_EIGHTHS = 9
-ROUNDING_OF_THRESHOLD = Fraction(1, 100)
-# Keys that a header has only for a sender that has another value.
-LEFT_OUT = {
-    "threshold_counts": "numbers",
-    "reset_rtt": False,
-    "latest_rtt_less_delay": False,
-    "time_threshold_eighths": DEFAULT_EIGHTHS,
-    "recovery_by_order": False,
-}
+MILLIONTHS = 1_000_000
+ROUNDING_OF_THRESHOLD = MILLIONTHS // 100
+# What a header says if nothing says another: RFC 9000, 18.2, for the peer's delay, and RFC 9002,
+# 7.2, for the window.
+DEFAULT_MAX_ACK_DELAY = 25 * NANOSECONDS["ms"]
+INITIAL_DATAGRAMS, BYTES_OF_INITIAL_WINDOW = 10, 14_720
 # Of the keys `window` and `loss_by_number`.
 REPORTED = "reported"
 MAY = "may"
@@ -60,6 +56,7 @@ def options_of(dialect: Dialect, survey: Survey, choices: Choices, notes: Notes)
         late = limit_of(dialect, survey, notes) if late is None else late
         found |= {} if late in (None, NO_LIMIT) else {"timer_late_us": late}
         found |= {
+            "refresh_min_rtt": False,
             "report_slack_us": dialect.slack_us,
             "report_slack_bytes": dialect.slack_bytes,
         }
@@ -87,8 +84,7 @@ def options_of(dialect: Dialect, survey: Survey, choices: Choices, notes: Notes)
             "time_threshold_eighths": eighths_of(survey, dialect),
             "recovery_by_order": dialect.recovery_by_order or survey.has_milliseconds,
         }
-    found |= said
-    return {key: value for key, value in found.items() if LEFT_OUT.get(key) != value}
+    return found | said
 
 
 def eighths_of(survey: Survey, dialect: Dialect) -> int:
@@ -96,14 +92,15 @@ def eighths_of(survey: Survey, dialect: Dialect) -> int:
     said = survey.time_threshold
     if said is None:
         return dialect.time_threshold_eighths
-    eighths = round(8 * said)
+    eighths = (8 * said + MILLIONTHS // 2) // MILLIONTHS
     is_said = eighths in EIGHTHS and not is_other(said, eighths)
     return eighths if is_said else dialect.time_threshold_eighths
 
 
-def is_other(threshold: Fraction, eighths: int) -> bool:
-    """Whether a time threshold is another than this many eighths, however a log rounds it."""
-    return abs(threshold - Fraction(eighths, 8)) > ROUNDING_OF_THRESHOLD
+def is_other(threshold: int, eighths: int) -> bool:
+    """Whether a time threshold, in millionths, is another than this many eighths, however a log
+    rounds it."""
+    return abs(8 * threshold - eighths * MILLIONTHS) > 8 * ROUNDING_OF_THRESHOLD
 
 
 def limit_of(dialect: Dialect, survey: Survey, notes: Notes) -> int | None:
@@ -164,6 +161,32 @@ def initial_rtt_of(dialect: Dialect, survey: Survey, notes: Notes) -> int | None
     return survey.first_smoothed
 
 
+def said_rtt(lines: Lines, rtt: int | None) -> int:
+    """The round-trip time before a sample as a header says it: its default for one that it cannot
+    say."""
+    if rtt and lines.in_unit(rtt) and rtt <= GREATEST_INITIAL_RTT:
+        return lines.in_unit(rtt)
+    return lines.in_unit(MICROSECONDS_OF_INITIAL_RTT * NANOSECONDS["us"])
+
+
+def initial_window_of(
+    dialect: Dialect, survey: Survey, options: dict[str, Any], notes: Notes
+) -> int:
+    """The first window, by what the log says; 0 if it says none."""
+    if dialect.hides_window and options.get("window") == REPORTED:
+        notes.guess(Guess.HIDDEN_WINDOW)
+        return GREATEST_WINDOW
+    return survey.recovery.get("initial_window", survey.first_window or 0)
+
+
+def said_window(size: int, window: int) -> int:
+    """The first window as a header of this datagram size says it: its default for one that it
+    cannot say."""
+    if 2 * size <= window <= GREATEST_WINDOW:
+        return window
+    return min(INITIAL_DATAGRAMS * size, max(BYTES_OF_INITIAL_WINDOW, 2 * size))
+
+
 def datagram_size_of(dialect: Dialect, survey: Survey, notes: Notes) -> int:
     """The size of datagrams, as the log says it or by what it has."""
     said = survey.recovery.get("max_datagram_size", 0)
@@ -188,11 +211,13 @@ def warn(dialect: Dialect, survey: Survey, options: dict[str, Any], notes: Notes
         notes.limits.add(Limit.MARKS)
     if survey.has_ack_frequency:
         notes.limits.add(Limit.ACK_FREQUENCY)
-    time_threshold = survey.time_threshold or Fraction(dialect.time_threshold_eighths, 8)
+    threshold = survey.time_threshold
     eighths = options.get("time_threshold_eighths", DEFAULT_EIGHTHS)
-    if is_other(time_threshold, eighths):
+    if threshold is None:
+        threshold = dialect.time_threshold_eighths * MILLIONTHS // 8
+    if is_other(threshold, eighths):
         notes.warnings.append(
-            f"its time_threshold is {float(time_threshold):.4g}, and that of the header"
+            f"its time_threshold is {threshold / MILLIONTHS:.4g}, and that of the header"
             f" {eighths}/8; losses by time may be refused"
         )
 
@@ -202,22 +227,18 @@ def write_header(
 ) -> int:
     """Writes the header; gives the datagram size."""
     size = datagram_size_of(dialect, survey, notes)
-    version = options["version"]
-    line: dict[str, Any] = {"version": version, "role": role, "max_datagram_size": size}
-    if survey.max_ack_delay is None:
+    delay = survey.max_ack_delay
+    if delay is None:
         notes.guess(Guess.NO_MAX_ACK_DELAY)
-    else:
-        line["max_ack_delay"] = lines.in_unit(survey.max_ack_delay)
-    rtt = initial_rtt_of(dialect, survey, notes)
-    if rtt and lines.in_unit(rtt) and rtt <= GREATEST_INITIAL_RTT:
-        line["initial_rtt"] = lines.in_unit(rtt)
-    window = survey.recovery.get("initial_window", survey.first_window) or 0
-    if dialect.hides_window and options.get("window") == REPORTED:
-        notes.guess(Guess.HIDDEN_WINDOW)
-        window = GREATEST_WINDOW
-    if 2 * size <= window <= GREATEST_WINDOW:
-        line["initial_window"] = window
-    if version >= 3 and not survey.has_window and options["window"] != REPORTED:
+        delay = DEFAULT_MAX_ACK_DELAY
+    line: dict[str, Any] = {
+        "role": role,
+        "max_datagram_size": size,
+        "max_ack_delay": lines.in_unit(delay),
+        "initial_rtt": said_rtt(lines, initial_rtt_of(dialect, survey, notes)),
+        "initial_window": said_window(size, initial_window_of(dialect, survey, options, notes)),
+    }
+    if options["version"] >= 3 and not survey.has_window and options["window"] != REPORTED:
         notes.guess(Guess.NO_WINDOW)
     told = {"x_note": notes.of_header} if notes.of_header else {}
     lines.header(line | options | {"x_dialect": dialect.name} | told)

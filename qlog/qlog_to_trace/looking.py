@@ -5,7 +5,6 @@ from dataclasses import dataclass, replace
 from enum import Enum
 
 from .dialects import Absent, Dialect
-from .errors import Unusable
 from .events import NANOSECONDS, Event
 from .flight import Flight
 from .lines import RTTS
@@ -212,11 +211,7 @@ class Looking:
         self._report = None
 
     def _see_metrics(self, event: Event) -> None:
-        try:
-            values = event.metrics()
-        except Unusable:
-            # The second reading tells of it, in its place.
-            return
+        values = event.metrics()
         for key in RTTS:
             if values.get(key):
                 (self._parts if values[key] % NANOSECONDS["ms"] else self._whole)[key] += 1
@@ -238,7 +233,7 @@ class Looking:
         self._report = reported, self._flight.bytes
 
     def _see_received(self, event: Event, space: str) -> None:
-        ranges = [pair for ack in event.acks for pair in event.ranges(ack)]
+        ranges = [pair for ack in event.acks for pair in ack.ranges]
         held = self._flight.bytes
         new = self._flight.named(space, ranges)
         self._see_sample(event, space, new)
@@ -257,16 +252,11 @@ class Looking:
 
     def _see_sample(self, event: Event, space: str, new: list[int]) -> None:
         """The round-trip time of the largest packet, if that is newly acknowledged."""
-        ranges = [event.ranges(ack) for ack in event.acks]
-        tops = [max(high for _, high in pairs) for pairs in ranges if pairs]
+        tops = [max(high for _, high in ack.ranges) for ack in event.acks if ack.ranges]
         if not new or max(new) not in tops:
             return
-        try:
-            delays = [event.nanoseconds(ack.get("ack_delay") or 0, "delay") for ack in event.acks]
-        except Unusable:
-            # The second reading tells of it, in its place.
-            return
-        self.samples.take(Sample(event.time - self._flight.time_of(space, max(new)), max(delays)))
+        latest = max(event.time - self._flight.time_of(space, max(new)), 0)
+        self.samples.take(Sample(latest, max(ack.delay for ack in event.acks)))
 
     def _see_losses(self, event: Event, top: int) -> None:
         """To which of two packets the losses between them are nearer, unless a timer found them."""

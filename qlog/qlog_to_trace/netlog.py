@@ -9,13 +9,12 @@ round-trip times and no timers are in it.
 import re
 from collections import Counter
 from collections.abc import Iterator, Sequence
-from decimal import Decimal
 from typing import Any, BinaryIO, NamedTuple
 
 from .errors import Torn, Unusable
-from .events import as_number
 from .flight import Numbers
 from .forms import Form, Record
+from .numbers import NoNumberError, Numeral, instant
 from .scanner import LONGEST_RECORD, Scanner
 
 MARK = re.compile(rb'\s*\{\s*"constants"')
@@ -47,8 +46,8 @@ def is_netlog(first: bytes) -> bool:
 def number_of(values: Values, key: str) -> int:
     """A whole number, which a netlog may write as a string."""
     try:
-        return int(as_number(values[key]))
-    except (ArithmeticError, KeyError, TypeError, ValueError) as error:
+        return instant(values.get(key), 0)
+    except NoNumberError as error:
         raise Unusable(f"a netlog without {key} in an event that has one") from error
 
 
@@ -160,7 +159,7 @@ class Session:
         is_shown = bool(self._lost) and self._lost[-1].time - time < LATE
         if is_shown:
             time = self._lost[-1].time
-        delay = Decimal(ack.delay) / 1000
+        delay = in_milliseconds(ack.delay)
         frame = {"frame_type": "ack", "ack_delay": delay, "acked_ranges": ack.ranges}
         yield Record(ack.place, self._packet_received(time, frame))
         held = self._in_flight.get(kind, Numbers())
@@ -220,7 +219,8 @@ class Session:
             yield Record(self._place, crypto)
 
     def _packet_received(self, time: int, frame: Values) -> Values:
-        header = {"packet_type": self._received}
+        # Its number is not logged.
+        header = {"packet_type": self._received, PACKET: 0}
         return event(time, "packet_received", {"header": header, "frames": [frame]})
 
     @staticmethod
@@ -252,9 +252,14 @@ BOUNDARIES = (
 )
 
 
+def in_milliseconds(microseconds: int) -> Numeral:
+    """A time or a duration as a qlog has it."""
+    return Numeral(f"{microseconds}e-3")
+
+
 def event(microseconds: int, name: str, data: Values) -> Values:
     """An event of a qlog."""
-    return {"time": Decimal(microseconds) / 1000, "name": name, "data": data}
+    return {"time": in_milliseconds(microseconds), "name": name, "data": data}
 
 
 class Netlog(Form):

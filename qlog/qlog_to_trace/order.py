@@ -75,13 +75,12 @@ class PacketFirst:
         self._held = []
 
     def _metrics(self, event: Event) -> Iterator[Event]:
-        has_sample = bool(event.data.get("latest_rtt") or event.data.get("smoothed_rtt"))
-        if set(event.data) == {"pto_count"} or (self._is_timed and not has_sample):
+        if event.has_only_pto_count or (self._is_timed and not event.has_sample):
             yield event
-        elif self._awaited and not has_sample:
+        elif self._awaited and not event.has_sample:
             self._awaited -= 1
             if self._of_sent:
-                event.data = self._of_sent.data | event.data
+                event.join(self._of_sent)
             self._of_sent = event
             if not self._awaited:
                 yield from self._merged()

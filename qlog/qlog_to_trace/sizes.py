@@ -4,6 +4,7 @@ from collections.abc import Iterable, Iterator
 from typing import Any
 
 from .events import GREATEST_SIZE, Event
+from .numbers import says, written
 
 # Bytes of a packet number that is not known, of the tag of the encryption, and of a version.
 NUMBER = 4
@@ -23,7 +24,7 @@ def length_of_varint(value: int) -> int:
 
 def length_of_hex(text: object) -> int:
     """How many bytes a text of hexadecimal digits stands for."""
-    return len(text) // 2 if isinstance(text, str) else 0
+    return len(text.encode()) // 2 if isinstance(text, str) else 0
 
 
 def token_of(header: dict[str, Any]) -> object:
@@ -37,10 +38,11 @@ def token_of(header: dict[str, Any]) -> object:
 def size_with_header(event: Event, payload: int) -> int:
     """The size of a packet with so many bytes of frames (RFC 9000, section 17)."""
     header = event.header
-    destination = length_of_hex(header.get("dcid"))
-    if event.space == "app" and not header.get("scid"):
+    destination, source = header.get("dcid"), header.get("scid")
+    has_source = isinstance(source, str) and source != ""
+    destination, source = length_of_hex(destination), length_of_hex(source)
+    if event.space == "app" and not has_source:
         return 1 + destination + NUMBER + payload + TAG
-    source = length_of_hex(header.get("scid"))
     size = 1 + VERSION + 1 + destination + 1 + source + NUMBER + payload + TAG
     size += length_of_varint(NUMBER + payload + TAG)
     if event.space == "initial":
@@ -51,7 +53,18 @@ def size_with_header(event: Event, payload: int) -> int:
 
 def is_open(frame: Frame) -> bool:
     """Whether a STREAM frame has no length, and so goes to the end of its packet."""
-    return frame.get("explicit_length") is False and not frame.get("payload_length")
+    return frame.get("explicit_length") is False and not says(frame.get("payload_length"))
+
+
+def stream_of(frame: Frame) -> str:
+    """The number of its stream, as the log writes it."""
+    return written(frame.get("stream_id"))
+
+
+def offset_of(event: Event, frame: Frame) -> int:
+    """At which byte of its stream its data begin."""
+    offset = frame.get("offset")
+    return event.integer(offset, "offset") if says(offset) else 0
 
 
 class Sizes:
@@ -94,12 +107,12 @@ class Sizes:
         if size is None:
             size = self._by_payload(event)
         else:
-            data = [self._data_of(frame, size) for frame in event.frames if is_open(frame)]
+            data = [self._data_of(event, frame, size) for frame in event.frames if is_open(frame)]
             size += sum(data)
             event.keeps_room = bool(data) and size == self._filled - ROOM
         if size is not None:
             self.are_guessed = event.is_size_guessed = True
-            event.size = event.integer(size, "raw.length", GREATEST_SIZE)
+            event.size = event.integer(size, "raw.length", GREATEST_SIZE, 1)
 
     @staticmethod
     def _by_frames(event: Event) -> int | None:
@@ -127,10 +140,10 @@ class Sizes:
         length = event.header.get("length")
         return None if length is None else event.integer(length, "header.length", GREATEST_SIZE)
 
-    def _data_of(self, frame: Frame, size: int) -> int:
+    def _data_of(self, event: Event, frame: Frame, size: int) -> int:
         """The data of a STREAM frame without a length, in a packet of so many other bytes."""
         left = max(0, self._filled - size)
-        stream, offset = str(frame.get("stream_id")), frame.get("offset") or 0
+        stream, offset = stream_of(frame), offset_of(event, frame)
         highest, _ = self._highest.get(stream, (None, 0))
         return 0 if offset == highest else min(left, self._short.get((stream, offset), left))
 
@@ -139,8 +152,7 @@ class Sizes:
         for frame, kind in zip(event.frames, event.frame_types, strict=True):
             if kind != "stream":
                 continue
-            stream = str(frame.get("stream_id"))
-            offset = event.integer(frame.get("offset") or 0, "offset")
+            stream, offset = stream_of(frame), offset_of(event, frame)
             before, left = self._highest.get(stream, (-1, 0))
             if offset <= before:
                 continue

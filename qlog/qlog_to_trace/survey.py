@@ -2,11 +2,10 @@
 
 from collections.abc import Iterable
 from dataclasses import dataclass
-from fractions import Fraction
 
 from .dialects import Dialect
 from .errors import Unusable
-from .events import NANOSECONDS, Event
+from .events import NANOSECONDS, UNKNOWN_METRICS, Event
 from .looking import DEFAULT_DELAY_EXPONENT, Looking
 from .notes import Guess
 from .sizes import Sizes
@@ -18,6 +17,8 @@ USUAL_DATAGRAM = 1500
 GREATEST_DELAY_EXPONENT = 20
 # RFC 9000, 18.2: values of 2^14 ms and more are invalid.
 GREATEST_MAX_ACK_DELAY = ((1 << 14) - 1) * NANOSECONDS["ms"]
+# How many digits of the time threshold behind its point count: it is in millionths.
+DIGITS_OF_THRESHOLD = 6
 # Parameters of recovery, by their keys in the header.
 RECOVERY_PARAMETERS = {
     "max_datagram_size": "max_datagram_size",
@@ -42,9 +43,10 @@ class Retry:
     numbers: dict[str, int]
 
 
-def estimate_of(event: Event) -> tuple[object, object]:
-    """The smoothed RTT and its variation that a report has, as they stand in the log."""
-    return event.data.get("smoothed_rtt"), event.data.get("rtt_variance")
+def estimate_of(event: Event) -> tuple[int | None, int | None]:
+    """The smoothed RTT and its variation that a report has."""
+    values = event.metrics()
+    return values.get("smoothed_rtt"), values.get("rttvar")
 
 
 class Survey:
@@ -58,23 +60,24 @@ class Survey:
         self.retry: Retry | None = None
         self._last_numbers: dict[str, int] = {}
         # Where Initial packets go, as long as none has come, and the round-trip time so far.
-        self._destination: object = None
+        self._destination: str | None = None
         self._smoothed = 0
         # Whether each time is a whole millisecond.
         self.has_milliseconds = True
         # Nanoseconds.
         self.max_ack_delay: int | None = None
         self.first_smoothed: int | None = None
-        # The smoothed RTT and its variation before a sample, as they stand in the log, whether they
-        # were others since, and whether they came back.
+        # The smoothed RTT and its variation before a sample, whether they were others since, and
+        # whether they came back.
         self._may_reset_rtt = dialect.may_reset_rtt
-        self._first_estimate: tuple[object, object] | None = None
+        self._first_estimate: tuple[int | None, int | None] | None = None
         self._has_estimate = self.has_reset_rtt = False
         self.first_window: int | None = None
         self.largest_size = 0
         # What recovery:parameters_set says, by the keys of the header.
         self.recovery: dict[str, int] = {}
-        self.time_threshold: Fraction | None = None
+        # In millionths.
+        self.time_threshold: int | None = None
         # By how many bits a delay on the wire is shifted.
         self.delay_exponent = DEFAULT_DELAY_EXPONENT
         # Whether the count of probe timeouts follows a timer at once, and whether the log names as
@@ -117,6 +120,8 @@ class Survey:
                 raise Unusable(f"each {name} is without its frames: {why}{advice}")
 
     def _see(self, event: Event) -> None:
+        if event.name == UNKNOWN_METRICS:
+            return
         if event.time % NANOSECONDS["ms"]:
             self.has_milliseconds = False
             if event.time % NANOSECONDS["us"]:
@@ -144,7 +149,7 @@ class Survey:
         if event.space:
             assert event.number >= 0
             self.has_repeats |= event.repeats
-        elif not event.packet_type:
+        elif event.packet_type is None:
             raise event.error("no packet_type, so it does not say of which space the packet is")
 
     def _see_parameters(self, event: Event) -> None:
@@ -152,7 +157,7 @@ class Survey:
         if event.data.get("owner", event.data.get("initiator")) != "remote":
             return
         if delay is not None:
-            found = event.nanoseconds(delay, "max_ack_delay")
+            found = event.duration(delay, "max_ack_delay")
             if found > GREATEST_MAX_ACK_DELAY:
                 raise event.error(f"max_ack_delay is {delay}")
             self.max_ack_delay = found
@@ -164,19 +169,20 @@ class Survey:
     def _see_recovery(self, event: Event) -> None:
         rtt = event.data.get("initial_rtt")
         if rtt is not None:
-            self.recovery["initial_rtt"] = event.nanoseconds(rtt, "initial_rtt")
+            self.recovery["initial_rtt"] = event.duration(rtt, "initial_rtt")
         for name, key in RECOVERY_PARAMETERS.items():
             if event.data.get(name) is not None:
                 self.recovery[key] = event.integer(event.data[name], name)
         threshold = event.data.get("time_threshold")
         if threshold is not None:
-            self.time_threshold = event.fraction(threshold, "time_threshold")
+            what = "time_threshold"
+            self.time_threshold = event.scaled(threshold, what, DIGITS_OF_THRESHOLD)
 
     def _see_sent(self, event: Event) -> None:
         self._is_after_timer = False
         if event.space is None:
             return
-        assert event.number >= 0
+        event.check_packet()
         self._see_destination(event)
         self._last_numbers[event.space] = event.number
         self._see_frames(event)
@@ -192,7 +198,8 @@ class Survey:
         (RFC 9000, section 7.2)."""
         if event.space != "initial" or self._role != "client" or self._has_received:
             return
-        destination = event.header.get("dcid")
+        said = event.header.get("dcid")
+        destination = said if isinstance(said, str) else None
         if self._destination not in (None, destination) and self.retry is None:
             told = f"a Retry that is not in the log, at {event.place}"
             self.retry = Retry(event.index - 1, told, dict(self._last_numbers))
@@ -209,12 +216,12 @@ class Survey:
                 told = f"the Retry at {event.place}"
                 self.retry = Retry(event.index, told, dict(self._last_numbers))
             return
+        event.check_packet()
         self._has_received = True
         self._see_frames(event)
         for ack in event.acks:
-            event.ranges(ack)
             self._has_ack = True
-            self.has_marks |= bool(ack.get("ce")) and event.integer(ack["ce"], "ce") > 0
+            self.has_marks |= ack.marks > 0
         if event.space != "handshake":
             return
         if self.first_handshake_received is None:
@@ -229,8 +236,8 @@ class Survey:
             self._with_frames.add(event.name)
 
     def _see_metrics(self, event: Event) -> None:
-        self.has_window = self.has_window or event.has_window
-        count = event.pto_count()
+        values, count = event.metrics(), event.pto_count()
+        self.has_window |= "window" in values
         if count is not None:
             self.has_pto_counts = True
             self.highest_pto_count = max(self.highest_pto_count, count)
@@ -238,7 +245,6 @@ class Survey:
         if self._has_ack:
             self._see_reset(event)
             return
-        values = event.metrics()
         self._smoothed = values.get("smoothed_rtt", self._smoothed)
         if self.first_window is None and values.get("window"):
             self.first_window = values["window"]

@@ -1,6 +1,5 @@
 """How long a server is silent that may not send, since the client's address is not validated."""
 
-from .errors import Unusable
 from .events import Event
 from .sizes import length_of_hex, token_of
 
@@ -59,12 +58,4 @@ class Validation:
         self._has_ack |= bool(event.acks)
         # Some logs have the size of an Initial packet without the rest of its datagram.
         least = LEAST_DATAGRAM if event.space == "initial" else 0
-        self._received += max(size_of(event), least)
-
-
-def size_of(event: Event) -> int:
-    """The size of a packet that came, or 0 if the log does not have it."""
-    try:
-        return event.size if event.has_size else 0
-    except Unusable:
-        return 0
+        self._received += max(event.size if event.has_size else 0, least)

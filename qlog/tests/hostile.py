@@ -1,5 +1,6 @@
 """Logs that nobody would write: real ones in which a value, a byte or the end is another."""
 
+import contextlib
 import gzip
 import json
 import random
@@ -37,6 +38,11 @@ VALUES = (
     *(r'"\u001b[31m\u0007"', r'"\u202e\u2066"', r'"\udb40\udc41"', r'"\ud800"', r'"a\nb"'),
     *('"packet_sent"', '"transport:packet_sent"', '"recovery:metrics_updated"', '"1RTT"'),
     *('"initial"', '"retry"', '"0RTT"', '"ack"', '"expired"', '"pto"', '"delta"', '"relative"'),
+    # Numbers that are written otherwise, and texts that are none.
+    *("-0", "1e3", "1200.0", "12000e-1", "1e-1", "0e99", "9007199254740993", "20e-1", "0.0000001"),
+    *('"7"', '"+7"', '"7.0"', '"7."', '".5e1"', '" 7"', '"7_0"', '"\u0667"', '"0x7"', '"nan"'),
+    *('"INITIAL"', '"1-rtt"', '"hand_shake"', '"ac\u212a"', r'"\ud83d\ude00"', r'"a\ud83d"'),
+    f"{'[' * 127}{']' * 127}",
 )
 # Bytes that are put in somewhere.
 BYTES = (b"\x00", b"\x1b[2J", b"\xff", b"\xed\xa0\x80", MARK, b"\n", b'"', b"{", b"}", b"[", b",")
@@ -75,6 +81,57 @@ class Seed:
             self.value = json.loads(data)
             place = self.value if "events" in self.value else self.value["traces"][0]
             place["events"] = place["events"][:RECORDS]
+
+    def mixed(self, chance: random.Random) -> Case:
+        """A log whose records are in another order, left out or twice there, or have a value of
+        another."""
+        value = json.loads(json.dumps(self.value))
+        records, told = self._records(value), []
+        ways = [way for way, _ in ways_into(records)]
+        for _ in range(chance.choice((1, 2, 4, 8))):
+            at, change = chance.randrange(len(records)), chance.randrange(5)
+            told.append((at, change))
+            match change:
+                case 0:
+                    records.insert(max(at - chance.choice((1, 1, 2, 5, 20)), 0), records.pop(at))
+                case 1:
+                    records.insert(at, json.loads(json.dumps(records[at])))
+                case 2 if len(records) > 1:
+                    del records[at]
+                case _:
+                    self._copy_value(records, ways, chance)
+        return Case(f"{self.name}: records are changed: {told}"[:300], self.text(value))
+
+    def _records(self, value: Any) -> list[Any]:
+        """The records of a log, and of one of many texts its head."""
+        if self.is_sequence:
+            records = value
+        else:
+            records = (value if "events" in value else value["traces"][0])["events"]
+        assert isinstance(records, list)
+        return records
+
+    @staticmethod
+    def _copy_value(records: list[Any], ways: list[Way], chance: random.Random) -> None:
+        """Gives a key the value that it has elsewhere."""
+        way = chance.choice(ways)
+        others = [it for it in ways if it[-1] == way[-1]]
+        with contextlib.suppress(LookupError, TypeError):
+            other: Any = records
+            for key in chance.choice(others):
+                other = other[key]
+            parent: Any = records
+            for key in way[:-1]:
+                parent = parent[key]
+            parent[way[-1]] = json.loads(json.dumps(other))
+
+    def torn(self, chance: random.Random) -> Case:
+        """A log that ends within a record, or near the end of one."""
+        data = self.text(self.value)
+        marks = [at for at in range(len(data)) if data[at : at + 1] in (b"\n", MARK, b"}")]
+        near = chance.choice(marks) + chance.choice((-1, 0, 1, 2)) if marks else 0
+        place = near if chance.random() < 0.5 else chance.randrange(len(data))
+        return Case(f"{self.name}: torn at byte {place}", data[: max(place, 0)])
 
     @staticmethod
     def _is_whole(text: bytes) -> bool:
@@ -198,11 +255,13 @@ def each_value(logs: list[Seed], chance: random.Random) -> list[tuple[Seed, Way,
     return found
 
 
-def cases(seed: int, part: int = 0, parts: int = 1) -> Iterator[Case]:
-    """Cases without an end. Every second one is of a field that is given a value, as long as there
-    are some. Of these it is one part of so many; the seed of a part is that of the first and its
-    number."""
-    logs, chance = seeds(), random.Random(seed)
+def cases(
+    seed: int, part: int = 0, parts: int = 1, logs: list[Seed] | None = None
+) -> Iterator[Case]:
+    """Cases without an end, of these logs or of the real ones. Every second one is of a field that
+    is given a value, as long as there are some. Of these it is one part of so many; the seed of a
+    part is that of the first and its number."""
+    logs, chance = seeds() if logs is None else logs, random.Random(seed)
     for log, way, text in each_value(logs, random.Random(seed - part))[part::parts]:
         yield log.with_value(way, text)
         yield chance.choice(logs).mutated(chance)
@@ -215,8 +274,9 @@ def too_slow(_: int, __: FrameType | None) -> None:
     raise TooSlowError
 
 
-def failure_of(case: Case) -> str | None:
-    """How the converter fails on a case; nothing if it does not."""
+@contextlib.contextmanager
+def in_time() -> Iterator[None]:
+    """Raises TooSlowError if what is done within takes too long."""
     timers = (
         (signal.SIGPROF, signal.ITIMER_PROF, SECONDS),
         (signal.SIGALRM, signal.ITIMER_REAL, SECONDS_OF_WAITING),
@@ -225,14 +285,21 @@ def failure_of(case: Case) -> str | None:
         signal.signal(number, too_slow)
         signal.setitimer(timer, seconds)
     try:
-        end = End(case.data)
+        yield
+    finally:
+        for _, timer, _ in timers:
+            signal.setitimer(timer, 0)
+
+
+def failure_of(case: Case) -> str | None:
+    """How the converter fails on a case; nothing if it does not."""
+    try:
+        with in_time():
+            end = End(case.data)
     except TooSlowError:
         return f"it takes more than {SECONDS} seconds of processor time, or waits for something"
     except BaseException:
         return traceback.format_exc()
-    finally:
-        for _, timer, _ in timers:
-            signal.setitimer(timer, 0)
     return failure_of_end(end)
 
 

@@ -31,7 +31,7 @@ class Forms(unittest.TestCase):
 
     def test_the_forms_say_the_same(self) -> None:
         expected = converted(self.EVENTS).text
-        self.assertIn('"sent","time":1500', expected)
+        self.assertIn('"space":"app","time":1500}', expected)
         for text in (
             sequence(header(), self.EVENTS, ""),
             document(header(), self.EVENTS),
@@ -125,9 +125,10 @@ class Ends(unittest.TestCase):
             ("{}", "it has no traces"),
             (middle, "line 2: not JSON"),
             (document(header(), self.EVENTS).replace("1.5,", "1.5,,"), "byte [0-9]+: not JSON"),
+            (document(header(), self.EVENTS) + "{}", "byte [0-9]+: not JSON"),
             (sequence(header(), [sent("soon", 0)]), "line 2: time is no number"),
             (sequence(header(), [sent(0, None)]), "line 2: packet_sent: no packet_number"),
-            (sequence(header(), [sent(0, -1)]), "line 2: packet_sent: packet_number is -1"),
+            (sequence(header(), [sent(0, -1)]), "line 2: packet_sent: packet_number is no whole"),
             (sequence(header(), [sent(0, 0, size=None)]), "line 2: packet_sent: no raw.length"),
             (sequence(header(), [sent(0, 0), received(1, [[5, 4]])]), "line 3: .*range 5 to 4"),
             (sequence(header(), []), "no packet_sent"),
@@ -138,9 +139,9 @@ class Ends(unittest.TestCase):
             (sequence({"configuration": {"time_units": []}} | role, []), "time_units is"),
             ('{"qlog_format": "NDJSON", "trace": 5}\n', "trace is no object"),
             (b"\x1e\xff\n" + good.encode(), "line 1: not JSON"),
-            (sequence(header(), [sent(0, "1e999999999")]), "line 2: .*: packet_number is no num"),
-            (sequence(header(), [sent("1e999999999", 0)]), "line 2: time is no number"),
-            (sequence(header(), [sent(0, 10**4000)]), "line 2: .*: packet_number is out of range"),
+            (sequence(header(), [sent(0, "1e999999999")]), "line 2: .*: packet_number is no who"),
+            (sequence(header(), [sent("1e999999999", 0)]), "line 2: time is a number of too many"),
+            (sequence(header(), [sent(0, 10**4000)]), "line 2: .*: packet_number is no whole num"),
             (sequence(header(), [received(1, True), sent(0, 0)]), "line 2: .* is no list"),
         ]
         for text, reason in bad:
@@ -154,17 +155,16 @@ class Ends(unittest.TestCase):
         self.assertEqual((end.status, end.text), (2, ""))
 
     def test_a_trace_that_stops_midway_is_told(self) -> None:
-        end = converted([sent(0, 0), received(1, [[0]]), metrics(1, congestion_window="wide")])
-        self.assertEqual(end.status, 2)
-        self.assertRegex(end.errors, "line 4: .*congestion_window.*; the trace ends after ")
+        events = [sent(0, 0), metrics(0, pto_count=0), sent(1, 1), metrics(1, pto_count=99)]
+        end = converted(events)
+        self.assertEqual((end.status, end.kinds), (2, ["header", "sent"]))
+        self.assertRegex(end.errors, "line 4: .*pto_count.*; the trace ends after its line 2\n$")
 
     def test_traces_that_nobody_could_read_are_not_written(self) -> None:
         many = [[number, number] for number in range(0, 12_000, 2)]
-        slow = received(1, [[0]], delay=10**14)
         for event, reason in (
             (sent(10**12 + 1, 1), "it goes on past 1000000000000000 us, the last time of a trace"),
             (received(1, many), "a line of [0-9]+ bytes; a trace has 65536 at most"),
-            (slow, "line 3: packet_received: ack_delay is out of range"),
         ):
             end = converted([sent(0, 0), event])
             self.assertEqual(end.status, 2)

@@ -48,7 +48,7 @@ class Header(unittest.TestCase):
         for said, eighths in ((1.125, 9), (1.25, 10), (1.249, 10), (4, 32)):
             event = {"time": 0, "name": "recovery:parameters_set", "data": {"time_threshold": said}}
             end = converted([event, sent(0, 0)])
-            self.assertEqual(end.lines[0].get("time_threshold_eighths", 9), eighths)
+            self.assertEqual(end.lines[0]["time_threshold_eighths"], eighths)
             self.assertEqual(end.errors, "")
         end = converted([event, sent(0, 0)], "--time-threshold-eighths", "10")
         self.assertEqual(end.lines[0]["time_threshold_eighths"], 10)
@@ -57,12 +57,20 @@ class Header(unittest.TestCase):
         self.assertNotIn("time_threshold_eighths", second.lines[0])
         self.assertIn("its time_threshold is 4, and that of the header 9/8;", second.errors)
 
-    def test_values_that_a_header_cannot_have_are_left_out(self) -> None:
+    def test_the_defaults_of_values_that_a_header_cannot_have(self) -> None:
         said = {"initial_rtt": 0, "max_datagram_size": 100, "initial_congestion_window": 1}
         event = {"time": 0, "name": "recovery:parameters_set", "data": said}
         line = converted([event, sent(0, 0)]).lines[0]
         self.assertEqual(line["max_datagram_size"], 1200)
-        self.assertFalse({"initial_rtt", "initial_window"} & set(line))
+        # RFC 9002, 6.2.2 and 7.2: 333 ms, and ten datagrams if they are no more than 14,720 bytes.
+        self.assertEqual((line["initial_rtt"], line["initial_window"]), (333_000, 12_000))
+        self.assertEqual(line["max_ack_delay"], 25_000)
+        for size, window in ((1472, 14_720), (1500, 14_720), (7_360, 14_720), (8_000, 16_000)):
+            line = converted([sent(0, 0, size=size)]).lines[0]
+            self.assertEqual(line["initial_window"], window)
+        line = converted([sent(0, 0)], "--unit", "ns").lines[0]
+        times = (line["initial_rtt"], line["max_ack_delay"])
+        self.assertEqual(times, (333_000_000, 25_000_000))
         end = converted([parameters(max_ack_delay=16_384), sent(0, 0)])
         self.assertEqual((end.status, end.text), (2, ""))
         self.assertIn("max_ack_delay is 16384", end.errors)
@@ -77,10 +85,13 @@ class Header(unittest.TestCase):
             number: set(converted([sent(0, 0)], "--version", str(number)).lines[0])
             for number in (1, 2, 3)
         }
-        exact = {"timer_late_us", "report_slack_us", "report_slack_bytes"}
+        first = {"event", "version", "role", "max_datagram_size", "max_ack_delay", "initial_rtt"}
+        self.assertEqual(keys[1], first | {"initial_window", "x_dialect", "x_guess"})
+        exact = {"timer_late_us", "refresh_min_rtt", "report_slack_us", "report_slack_bytes"}
         self.assertEqual(keys[2] - keys[1], exact)
-        choices = {"unit", "window", "window_overshoot", "sample_eliciting_only"}
+        choices = {"unit", "window", "window_overshoot", "sample_eliciting_only", "reset_rtt"}
         choices |= {"packet_threshold", "timer_early_us", "loss_by_number", "recovery_by_order"}
+        choices |= {"threshold_counts", "latest_rtt_less_delay", "time_threshold_eighths"}
         self.assertEqual(keys[3] - keys[2], choices)
 
     def test_the_options_of_each_kind_of_log(self) -> None:
@@ -175,13 +186,13 @@ class Header(unittest.TestCase):
 
     def test_a_sender_that_counts_packets(self) -> None:
         file = "urn:ietf:params:qlog:file:sequential"
-        for schema, said in ((file, "packets"), ("0.3", None)):
+        for schema, said in ((file, "packets"), ("0.3", "numbers")):
             events = [sent(0, 0), sent(0, 2), metrics(0, congestion_window=12000)]
             line = converted(events, name="quic-go", schema=schema).lines[0]
-            self.assertEqual(line.get("threshold_counts"), said, schema)
+            self.assertEqual(line["threshold_counts"], said, schema)
             self.assertEqual(line["loss_by_number"], "must", schema)
         named = converted(events, "--threshold-counts", "numbers", name="quic-go", schema=file)
-        self.assertNotIn("threshold_counts", named.lines[0])
+        self.assertEqual(named.lines[0]["threshold_counts"], "numbers")
 
     def test_a_sender_that_resets_the_rtt(self) -> None:
         first = {"smoothed_rtt": 333, "rtt_variance": 166}
@@ -189,25 +200,25 @@ class Header(unittest.TestCase):
         again = {**first, "latest_rtt": 35}
         for name, reports, said in (
             ("ngtcp2", (later, again), True),
-            ("ngtcp2", (later, later), None),
-            ("ngtcp2", (again, later), None),
-            ("neqo", (later, again), None),
+            ("ngtcp2", (later, later), False),
+            ("ngtcp2", (again, later), False),
+            ("neqo", (later, again), False),
         ):
             events = [sent(0, 0), metrics(0, congestion_window=12000, **first)]
             events.append(received(40, [[0]]))
             events += [metrics(40 + at, **report) for at, report in enumerate(reports)]
             line = converted(events, name=name).lines[0]
-            self.assertEqual(line.get("reset_rtt"), said, (name, reports))
+            self.assertEqual(line["reset_rtt"], said, (name, reports))
 
     def test_recovery_goes_by_the_order_if_times_can_be_equal(self) -> None:
         for name, time, said in (
             ("neqo", 1.25, True),
             ("ngtcp2", 1, True),
             ("quic-go", 1, True),
-            ("quic-go", 1.25, None),
+            ("quic-go", 1.25, False),
         ):
             line = converted([sent(0, 0), sent(time, 1)], name=name).lines[0]
-            self.assertEqual(line.get("recovery_by_order"), said, (name, time))
+            self.assertEqual(line["recovery_by_order"], said, (name, time))
 
     def test_which_side(self) -> None:
         traces = [{**header(role=it), "events": [sent(0, 0)]} for it in ("server", "client")]

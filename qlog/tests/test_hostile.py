@@ -59,10 +59,13 @@ class Limits(unittest.TestCase):
     def test_a_record_of_a_mebibyte(self) -> None:
         first = sequence(header(), [], "")
         marked = sequence(header(), [])
-        # With the line feed, and with the mark too, for which there has to be room.
-        self.assertEqual(End(first + self.long_event(LONGEST - 1) + "\n").status, 0)
-        long = self.long_event(LONGEST) + "\n"
+        # A mark is no part of a record, and the line feed of one that has another mark is.
+        self.assertEqual(End(first + self.long_event(LONGEST) + "\n").status, 0)
+        self.assertEqual(End(f"{marked}\x1e{self.long_event(LONGEST - 1)}\n").status, 0)
+        long = self.long_event(LONGEST + 1) + "\n"
         self.check(first + long, "line 2: a record of more than 1,048,576 bytes")
+        self.check(f"{marked}\x1e{long[:-1]}", "line 2: a record of more than 1,048,576 bytes")
+        long = self.long_event(LONGEST) + "\n"
         self.check(f"{marked}\x1e{long}", "line 2: a record of more than 1,048,576 bytes")
         lines = long.replace('"padding": "', '"padding":\n"')
         self.check(f"{marked}\x1e{lines}", "line 2: a record of more than 1,048,576 bytes")
@@ -72,30 +75,28 @@ class Limits(unittest.TestCase):
         for length, status in ((LONGEST, 0), (LONGEST + 1, 2)):
             end = End(text.replace('"events": [', '"events": [' + self.long_event(length)))
             self.assertEqual(end.status, status, end.errors)
-        self.assertIn("a value of more than 1,048,576 characters", end.errors)
+        self.assertIn("a record of more than 1,048,576 bytes", end.errors)
 
     def test_nesting_and_digits(self) -> None:
-        for value, why in (
-            ("[" * 3000 + "]" * 3000, "it nests too deep"),
-            ("9" * 5000, "a number of more than 4300 digits"),
-        ):
-            whole = document(header(), [sent(0, 0)]).replace('"1RTT"', value)
-            end = End(whole)
-            self.assertEqual(end.status, 2)
-            self.assertRegex(end.errors, rf"^qlog-to-trace: LOG: byte \d+: {why}\n$")
+        # The record is a list or an object too.
+        for depth, status in ((127, 0), (128, 2), (3000, 2)):
+            event = {**sent(0, 0), "padding": "deep"}
+            text = document(header(), [event]).replace('"deep"', "[" * depth + "]" * depth)
+            end = End(text)
+            self.assertEqual(end.status, status)
+        self.assertRegex(end.errors, r"^qlog-to-trace: LOG: byte \d+: it nests too deep\n$")
+        for number in ("9" * 5000, "1e" + "9" * 5000):
+            text = document(header(), [event]).replace('"deep"', number)
+            self.assertEqual(End(text).status, 0)
 
-    def test_values_of_a_header(self) -> None:
+    def test_what_is_beside_the_events(self) -> None:
         long = json.dumps({"title": ["x" * 1_000] * 17_000, "traces": []})
-        self.check(long, "byte 10: a value of more than 16,777,216 characters")
-
-    def test_keys_and_traces(self) -> None:
-        keys = ",".join(f'"{number}":1' for number in range(1_001))
-        end = End(f"{{{keys}}}")
+        self.check(long, "byte 10: more than 16,777,216 bytes beside the records")
+        spaces = " " * (1 << 24)
+        end = End("{" + spaces + '"traces":[]}')
         self.assertEqual(end.status, 2)
-        self.assertRegex(end.errors, r"LOG: byte \d+: an object of more than 1,000 keys\n$")
-        end = End('{"traces":[' + ",".join(["{}"] * 100_001) + "]}")
-        self.assertEqual(end.status, 2)
-        self.assertRegex(end.errors, r"LOG: byte \d+: more than 100,000 traces\n$")
+        self.assertIn(": more than 16,777,216 bytes beside the records\n", end.errors)
+        self.check("{", "it has no traces")
 
     def test_many_traces_with_many_keys_take_little_memory(self) -> None:
         keys = ",".join(f'"{number}":1' for number in range(900))
@@ -111,9 +112,10 @@ class Limits(unittest.TestCase):
         self.assertIn("its vantage point is neither", ended.stderr)
 
     def test_what_a_log_unpacks_to(self) -> None:
-        spaces = b" " * (1 << 20)
+        zeros = bytes(1 << 20)
+        none = "byte 0: neither JSON-SEQ nor a JSON text a line nor one JSON object"
         why = "unpacked it has more than 67,108,864 bytes: unpack it first"
-        for log, says in ((spaces * 64, "nothing but white space"), (spaces * 64 + b" ", why)):
+        for log, says in ((zeros * 64, none), (zeros * 64 + b" ", why)):
             for packed in (gzip.compress(log), lzma.compress(log)):
                 self.check(packed, says)
 

@@ -257,7 +257,6 @@ class Unvalidated(unittest.TestCase):
             self.assertEqual(self.limit(*validated, late), TIMER_LATE)
         # A packet of 0-RTT says nothing, and a client has no such limit.
         early = received(30, kind="0RTT")
-        early["data"]["raw"] = {"length": 0}
         self.assertEqual(self.limit(*self.FULL, early, late), None)
         self.assertEqual(self.limit(*self.FULL, late, role="client"), TIMER_LATE)
 

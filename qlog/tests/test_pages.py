@@ -8,9 +8,34 @@ import unittest
 from qlog_to_trace.command import arguments
 from qlog_to_trace.dialects import DIALECTS
 
-from .made import TOP, End
+from .made import TOP, End, Line
 
 REAL = TOP / "conformance" / "real" / "traces"
+# What a header of each version says if it leaves a key out.
+DEFAULTS: dict[int, Line] = {
+    1: {},
+    2: {"refresh_min_rtt": False},
+    3: {
+        "threshold_counts": "numbers",
+        "reset_rtt": False,
+        "latest_rtt_less_delay": False,
+        "time_threshold_eighths": 9,
+        "recovery_by_order": False,
+    },
+}
+
+
+def said_by(line: str) -> Line:
+    """What a line says, also by keys that it leaves out."""
+    said: Line = json.loads(line)
+    if said["event"] != "header":
+        return said
+    unit, size = 1_000 if said.get("unit") == "ns" else 1, said["max_datagram_size"]
+    found = {"max_ack_delay": 25_000 * unit, "initial_rtt": 333_000 * unit}
+    found["initial_window"] = min(10 * size, max(14_720, 2 * size))
+    for version in range(1, said["version"] + 1):
+        found |= DEFAULTS[version]
+    return found | said
 
 
 class Pages(unittest.TestCase):
@@ -39,8 +64,8 @@ class Pages(unittest.TestCase):
 
 
 class Real(unittest.TestCase):
-    """Each log of conformance/real/traces gives the trace beside it, which sets no limit for late
-    timers, and in which the latest round-trip time may be kept whole."""
+    """Each log of conformance/real/traces gives a trace that says what the one beside it does. That
+    sets no limit for late timers, and in it the latest round-trip time may be kept whole."""
 
     def test_real(self) -> None:
         paths = [*sorted(REAL.glob("*.qlog")), *sorted(REAL.glob("*.netlog"))]
@@ -57,7 +82,11 @@ class Real(unittest.TestCase):
                     by_order = header.get("recovery_by_order", False)
                     words += ["--recovery-by-order", "yes" if by_order else "no"]
                     words += ["--threshold-counts", header.get("threshold_counts", "numbers")]
-                self.assertEqual(End(path.read_bytes(), *words).text, expected)
+                written = End(path.read_bytes(), *words).text
+                self.assertEqual(written.count("\n"), expected.count("\n"))
+                for found, line in zip(written.splitlines(), expected.splitlines(), strict=True):
+                    self.assertEqual(json.loads(found), said_by(line))
+                    self.assertEqual(list(json.loads(found)), sorted(json.loads(found)))
 
 
 class Example(unittest.TestCase):
