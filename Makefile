@@ -18,6 +18,8 @@ program_why := crates/qaudit_why/out/qaudit_why
 program_by_one_byte := crates/one_byte/out/one_byte
 # The reader of lines by itself, a test of it.
 program_of_lines := crates/lines/out/lines
+# The converter of logs in Rattle, which is compared with that in Python.
+program_of_logs := crates/qlog_to_trace/out/qlog_to_trace
 # Each call over a trace, to be run with each allocation refused.
 program_without_memory := crates/without_memory/out/without_memory
 # The library for C: what `rt lib` makes of its crate, with the heap of the kit, which stands over malloc.
@@ -43,19 +45,19 @@ python_of_fuzz := conformance/fuzz/run
 # The pages, and what measures and tests them.
 python_of_page := page/qaudit-page page/qaudit-matrix $(wildcard page/qaudit_page/*.py)
 python_of_page_tests := page/measure page/picture $(wildcard page/*.py page/tests/*.py)
-python_of_qlog := qlog/qlog-to-trace qlog/dialects qlog/fuzz $(wildcard qlog/qlog_to_trace/*.py qlog/tests/*.py)
+python_of_qlog := qlog/qlog-to-trace qlog/compare qlog/dialects qlog/fuzz $(wildcard qlog/qlog_to_trace/*.py qlog/tests/*.py)
 # captures/transfer.py runs where aioquic is, and is checked for style alone.
 python_of_captures := captures/audit.py captures/causes.py captures/lateness captures/logs.py captures/run captures/stacks.py captures/table captures/test_causes.py captures/test_delay.py captures/test_lateness.py captures/test_upload.py examples/delay.py examples/logger.py
 python_of_release := $(addprefix release/,archive edits minutes prove unproved) $(wildcard release/*.py)
 python_of_bindings := $(wildcard bindings/python/*.py)
 # Checked for style alone, since they need pytest.
 python_of_recipes := $(wildcard examples/embedding/pytest/*.py)
-python_of_bench := $(addprefix bench/,files instructions library peers run trace) $(wildcard bench/*.py) bench/programs/read.py
+python_of_bench := $(addprefix bench/,files instructions library logs peers run trace) $(wildcard bench/*.py) bench/programs/read.py
 
 # The programs of conformance/ over what the gate built, the longest first. None waits for another.
 conformance := conformance-cuts conformance-failing conformance-refusals conformance-simulate conformance-mutations \
 	conformance-malicious conformance-large conformance-run conformance-reasons conformance-rows conformance-departures \
-	conformance-allocations conformance-memory conformance-side-by-side
+	conformance-allocations conformance-memory conformance-side-by-side conformance-converted
 
 # What is handed to the library for C, in each language.
 bindings := conformance-library conformance-recipes bindings-rust bindings-go bindings-python
@@ -201,6 +203,10 @@ conformance-side-by-side:
 
 conformance-memory:
 	conformance/memory $(program_without_memory)
+
+# Both converters, over the real logs here and over some hundred that nobody would write.
+conformance-converted:
+	qlog/compare --native $(program_of_logs) --mutations 600
 
 conformance-library: $(library)
 	conformance/library $(library)

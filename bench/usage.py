@@ -79,9 +79,13 @@ def run(command: list[str]) -> Run:
         return Run(child.returncode, output.read().decode(errors="replace"), usage)
 
 
-def run_to_nowhere(command: list[str]) -> Run:
-    """Runs a program whose standard output is /dev/null."""
+def run_to_nowhere(command: list[str], *, is_silent: bool = False) -> Run:
+    """Runs a program whose standard output is /dev/null, and its standard error too if it is to be
+    silent."""
     start = time.perf_counter()
-    child = subprocess.Popen(command, stdin=subprocess.DEVNULL, stdout=subprocess.DEVNULL)
+    error = subprocess.DEVNULL if is_silent else None
+    child = subprocess.Popen(
+        command, stdin=subprocess.DEVNULL, stdout=subprocess.DEVNULL, stderr=error
+    )
     usage = used_by(child, start)
     return Run(child.returncode, "", usage)

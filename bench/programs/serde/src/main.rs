@@ -138,8 +138,27 @@ fn lines_of(path: &str) -> Result<u64, Box<dyn Error>> {
     Ok(lines)
 }
 
+/// How many records a log has, each of which is read into a value: those of a log with a text a
+/// line, or the one value that a log in one object is.
+fn records_of(path: &str) -> Result<u64, Box<dyn Error>> {
+    let mut log = BufReader::with_capacity(BUFFER, File::open(path)?);
+    let mut text = Vec::new();
+    let mut records = 0;
+    while log.read_until(b'\n', &mut text)? > 0 {
+        records += 1;
+        let record = text.strip_prefix(b"\x1e").unwrap_or(&text);
+        let _value: Value = serde_json::from_slice(record)?;
+        text.clear();
+    }
+    Ok(records)
+}
+
 fn main() -> Result<(), Box<dyn Error>> {
-    let path = env::args().nth(1).ok_or("usage: read FILE")?;
-    println!("lines {}", lines_of(&path)?);
+    let words: Vec<String> = env::args().skip(1).collect();
+    match words.as_slice() {
+        [path] => println!("lines {}", lines_of(path)?),
+        [option, path] if option == "--log" => println!("records {}", records_of(path)?),
+        _ => return Err("usage: read [--log] FILE".into()),
+    }
     Ok(())
 }
