@@ -26,8 +26,8 @@ TRACE_NAME, LOG_NAME = "a.trace", "a.qlog"
 SECONDS = 60
 # Of memory, in the units of `ulimit -v`, and of processes.
 KILOBYTES, PROCESSES = 3_000_000, 4_000
-# Twenty megabytes; a program in Python starts with more.
-LITTLE = 20_480
+# Twenty megabytes, and ten, in which Python does not start.
+LITTLE, TOO_LITTLE_FOR_PYTHON = 20_480, 10_240
 LITTLE_OF_PYTHON = 150_000
 GIBIBYTE = 1 << 30
 OPEN_FILES, MOST_OPEN = 1_000, 1_100
@@ -187,7 +187,7 @@ class Tries(NamedTuple):
             yield Case("many-files", names, 0, b"", written, before=f"ulimit -n {FEW_OPEN}")
         if self.program.is_python:
             # Python itself does not start, and says so in its own words.
-            yield Case("little-memory", given, None, None, b"", LITTLE)
+            yield Case("little-memory", given, None, None, b"", TOO_LITTLE_FOR_PYTHON)
             large = "large.qlog" if given == LOG_NAME else "large"
             named = f"{large}: " if given == LOG_NAME else ""
             says = self.program.says(f"{named}out of memory")
