@@ -28,6 +28,7 @@ from why import (
     Verdict,
     accepted,
     breaks,
+    broken,
     due_of,
     head_of,
     not_read,
@@ -35,7 +36,6 @@ from why import (
     refused_end,
     rule_of,
     said_by,
-    shown,
     verdict_of,
     why,
 )
@@ -263,7 +263,7 @@ class Follower:
 
     def text_of(self, number: int, event: Event, word: str, what: str) -> bytes:
         """What is written of a rule that an event of a line breaks."""
-        line = shown(number, self.lines[number - 1])
+        line = broken(number, self.lines[number - 1])
         return head_of(self.name, number, word, what) + breaks(self.sender, event, what, line)
 
 

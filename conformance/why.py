@@ -24,6 +24,8 @@ from near import meant
 from sender import Deadline, Event, Ranges, Sender
 
 SHOWN_BYTES = 200
+# Where in a log a line is from, by the converter.
+PLACE = "x_place"
 SHOWN_RUNS = 16
 SHOWN_OF_STRING = 40
 MICROSECONDS_IN_A_MILLISECOND = 1000
@@ -211,6 +213,11 @@ def shown(number: int, line: bytes) -> bytes:
     return f"  {number} | ".encode() + printed(line[:SHOWN_BYTES]) + end
 
 
+def broken(number: int, line: bytes) -> bytes:
+    """A line that breaks a rule as it is shown, and where in a log it is from."""
+    return shown(number, line) + caveats.remarks("  in the log: ", PLACE, line)
+
+
 # Lines that cannot be read.
 
 
@@ -324,7 +331,7 @@ def refused(verdict: Verdict, lines: list[bytes]) -> bytes:
         return refused_end(sender)
     for number, event in said:
         if number == verdict.line:
-            return breaks(sender, event, verdict.what, shown(number, lines[number - 1]))
+            return breaks(sender, event, verdict.what, broken(number, lines[number - 1]))
         sender.follow(event)
     raise ValueError("the report names no line of an event")
 

@@ -5,7 +5,8 @@ ghost use Rattle.qa_log_command.specs.Failing.{fails_to_write};
 
 use crate::failure::Failure;
 use qa_check::{Metered, Source};
-use std::alloc::Global;
+use qa_logs::is_log;
+use std::alloc::{AllocError, Global};
 use std::fs;
 use std::io::Read;
 use std::rt::Files;
@@ -62,6 +63,22 @@ impl<'a> Bytes<'a> {
                 passed: 0,
             }),
         }
+    }
+}
+
+/// Whether the file of this name is a log, by its first 65,536 bytes, which can be read again from
+/// its beginning on. If it cannot be opened or read it is none: whoever reads it sees why.
+pub fn is_log_file<R: Files>(rt: &R, alloc: Global, name: &str) -> Result<bool, AllocError> {
+    let Ok(true) = is_regular(rt, name) else {
+        return Ok(false);
+    };
+    let Ok(file) = open(rt, name) else {
+        return Ok(false);
+    };
+    match next_piece(alloc, &mut Metered::new(file)) {
+        Ok(beginning) => is_log(alloc, beginning.as_slice()),
+        Err(Failure::OutOfMemory) => Err(AllocError),
+        Err(_) => Ok(false),
     }
 }
 

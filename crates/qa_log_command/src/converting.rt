@@ -1,15 +1,16 @@
-//! The three readings of a log, the last of which writes its trace.
+//! The trace of a log, written to a stream.
 
-ghost use Rattle.std.specs.Prelude.{◌≡◌, IfErr, IsSome, false, is_err, true};
+ghost use Rattle.std.specs.Prelude.{◌≡◌, IfErr, IsSome, is_err, true};
 ghost use Rattle.qa_log_command.specs.Failing.{fails_to_write, is_write, stops_at_write};
 ghost use Rattle.qa_log_command.specs.Written.{WritesLines};
 
 use crate::arguments::Wanted;
-use crate::bytes::{Bytes, Parts};
+use crate::bytes::Bytes;
 use crate::failure::{Failure, Stopped};
+use crate::lines::{Lines, lines_of};
 use crate::output::write_text;
 use qa_check::{Sink, Source};
-use qa_logs::{Opening, Reading, Request, Trace, Wants};
+use qa_logs::Trace;
 use std::alloc::Global;
 use std::io::Read;
 use std::rt::Files;
@@ -28,143 +29,42 @@ pub fn convert<R: Files, I: Source, O: Sink>(
     ensures unread { IsSome wanted.now.file → input.new ≡ input.old }
 {
     let bytes = Bytes::of(rt, alloc, wanted.file, input)?;
-    let trace = begun(rt, alloc, &bytes, wanted.request)?;
-    let mut writing = Writing { trace, lines: 0 };
-    match writing.write(rt, alloc, &bytes, output) {
-        Ok(()) => Ok(writing.trace),
+    let mut lines = lines_of(rt, alloc, &bytes, wanted.request)?;
+    match write_lines(&mut lines, output) {
+        Ok(()) => Ok(lines.into_trace()),
         Err(failure) => Err(Stopped {
             failure,
-            lines: writing.lines,
+            lines: lines.count(),
         }),
     }
 }
 
-/// The trace of a log before its third reading.
-fn begun<R: Files>(
-    rt: &R,
-    alloc: Global,
-    bytes: &Bytes<'_>,
-    request: Request,
-) -> Result<Trace, Failure>
-    ensures { fails_to_write result ≡ false }
+/// Writes the lines of a trace. Those that were before a fault in the log are written too.
+fn write_lines<F: Read, O: Sink>(
+    lines: &mut Lines<'_, F>,
+    output: &mut O,
+) -> Result<(), Failure>
+    ensures { WritesLines (fails_to_write result)
+        (O.held output.old, O.write_failures output.old)
+        (O.held output.new, O.write_failures output.new) }
 {
-    let mut opening = Opening::new(alloc);
-    read(&mut bytes.parts(rt, alloc)?, &mut opening)?;
-    let log = opening.end()?;
-    let mut surveying = log.survey(request)?;
-    read(&mut bytes.parts(rt, alloc)?, &mut surveying)?;
-    Ok(surveying.end(&log)?)
-}
-
-/// Reads a log part by part, up to its end, or until no more of it is wanted.
-fn read<F: Read, T: Reading>(parts: &mut Parts<'_, F>, reading: &mut T) -> Result<(), Failure>
-    ensures { fails_to_write result ≡ false }
-{
-    'parts: for _i in 0..u64::MAX {
-        if !parts.advance()? {
+    give(lines, output)?;
+    'lines: for _i in 0..u64::MAX {
+        let advanced = lines.advance();
+        give(lines, output)?;
+        if !advanced? {
             break;
-        }
-        match reading.feed(parts.part())? {
-            Wants::More => {}
-            Wants::Nothing => break,
         }
     }
     Ok(())
 }
 
-/// A trace, and how many of its lines were written.
-#[derive(Drop)]
-struct Writing {
-    trace: Trace,
-    lines: u64,
-}
-
-impl Writing {
-    /// Reads a log the third time, and writes its trace: first its header. A line that was before a
-    /// fault in the log is written too.
-    fn write<R: Files, O: Sink>(
-        &mut self,
-        rt: &R,
-        alloc: Global,
-        bytes: &Bytes<'_>,
-        output: &mut O,
-    ) -> Result<(), Failure>
-        ensures { WritesLines (fails_to_write result)
-            (O.held output.old, O.write_failures output.old)
-            (O.held output.new, O.write_failures output.new) }
-    {
-        self.give(output)?;
-        let mut parts = bytes.parts(rt, alloc)?;
-        self.write_parts(&mut parts, output)?;
-        self.write_end(output)
-    }
-
-    /// Takes the parts of the log, and writes what they add to the trace.
-    fn write_parts<F: Read, O: Sink>(
-        &mut self,
-        parts: &mut Parts<'_, F>,
-        output: &mut O,
-    ) -> Result<(), Failure>
-        ensures { WritesLines (fails_to_write result)
-            (O.held output.old, O.write_failures output.old)
-            (O.held output.new, O.write_failures output.new) }
-    {
-        'parts: for _i in 0..u64::MAX {
-            if !parts.advance()? {
-                break;
-            }
-            match self.write_part(parts.part(), output)? {
-                Wants::More => {}
-                Wants::Nothing => break,
-            }
-        }
-        Ok(())
-    }
-
-    /// Takes a part of the log, and writes what it adds to the trace.
-    fn write_part<O: Sink>(&mut self, part: &[u8], output: &mut O) -> Result<Wants, Failure>
-        ensures { WritesLines (fails_to_write result)
-            (O.held output.old, O.write_failures output.old)
-            (O.held output.new, O.write_failures output.new) }
-    {
-        let fed = self.trace.feed(part);
-        self.give(output)?;
-        Ok(fed?)
-    }
-
-    /// Writes what the end of the log adds to the trace.
-    fn write_end<O: Sink>(&mut self, output: &mut O) -> Result<(), Failure>
-        ensures { WritesLines (fails_to_write result)
-            (O.held output.old, O.write_failures output.old)
-            (O.held output.new, O.write_failures output.new) }
-    {
-        let ended = self.trace.end();
-        self.give(output)?;
-        Ok(ended?)
-    }
-
-    /// Writes the lines that the trace has so far.
-    fn give<O: Sink>(&mut self, output: &mut O) -> Result<(), Failure>
-        ensures written { WritesLines (is_err result)
-            (O.held output.old, O.write_failures output.old)
-            (O.held output.new, O.write_failures output.new) }
-        ensures write { IfErr result (λ failure. is_write failure ≡ true) }
-    {
-        let text = self.trace.text();
-        write_text(output, text)?;
-        self.lines = self.lines.saturating_add(lines_of(text));
-        self.trace.clear();
-        Ok(())
-    }
-}
-
-/// How many lines a text has, each ended by LF.
-fn lines_of(text: &[u8]) -> u64 {
-    let mut lines: u64 = 0;
-    for byte in text {
-        if *byte == b'\n' {
-            lines = lines.saturating_add(1);
-        }
-    }
-    lines
+/// Writes the lines that a trace has at this point.
+fn give<F: Read, O: Sink>(lines: &Lines<'_, F>, output: &mut O) -> Result<(), Failure>
+    ensures written { WritesLines (is_err result)
+        (O.held output.old, O.write_failures output.old)
+        (O.held output.new, O.write_failures output.new) }
+    ensures write { IfErr result (λ failure. is_write failure ≡ true) }
+{
+    write_text(output, lines.text())
 }

@@ -6,7 +6,7 @@ ghost use Rattle.qa_log_command.specs.declared.failure.Failure.TheVariants as fa
 
 use crate::ending::Ending;
 use qa_logs::LogFault;
-use std::alloc::{AllocError, AllocFailed};
+use std::alloc::{AllocError, AllocFailed, Global};
 use std::io;
 use thiserror::Error;
 
@@ -81,6 +81,24 @@ impl Failure {
 pub struct Stopped {
     pub failure: Failure,
     pub lines: u64,
+}
+
+impl Stopped {
+    /// What is said of the log of this name.
+    pub fn text(&self, alloc: Global, name: &str) -> Result<String, AllocError> {
+        let (failure, lines) = (&self.failure, self.lines);
+        match failure {
+            Failure::Open(error) if error.kind() == io::ErrorKind::NotFound => {
+                format!(in alloc; "cannot open {name}: no such file")
+            }
+            Failure::Open(error) => format!(in alloc; "cannot open {name}: {error}"),
+            Failure::Write(error) => format!(in alloc; "cannot write standard output: {error}"),
+            failure if lines == 0 => format!(in alloc; "{name}: {failure}"),
+            failure => {
+                format!(in alloc; "{name}: {failure}; the trace ends after its line {lines}")
+            }
+        }
+    }
 }
 
 impl From<Failure> for Stopped {

@@ -9,9 +9,15 @@ mod converting;
 mod ending;
 mod failure;
 mod keys;
+mod lines;
 mod output;
+mod reader;
 mod telling;
 
 pub use arguments::{Asked, Wanted, parse};
+pub use bytes::{Bytes, is_log_file};
 pub use commanding::{Streams, command, refuse};
 pub use ending::Ending;
+pub use failure::{Failure, Stopped};
+pub use lines::{Lines, lines_of};
+pub use reader::TraceReader;

@@ -35,7 +35,7 @@ pub fn tell_failure<E: Sink>(alloc: Global, name: &str, stopped: &Stopped, error
     if is_closed(&stopped.failure) {
         return Ending::Failed;
     }
-    match failure_text(alloc, name, stopped) {
+    match stopped.text(alloc, name) {
         Ok(text) => {
             tell(text.as_str(), error);
             stopped.failure.ending()
@@ -49,20 +49,6 @@ fn is_closed(failure: &Failure) -> bool {
     match failure {
         Failure::Write(error) => error.kind() == io::ErrorKind::BrokenPipe,
         _ => false,
-    }
-}
-
-/// What is said of a failure.
-fn failure_text(alloc: Global, name: &str, stopped: &Stopped) -> Result<String, AllocError> {
-    let (failure, lines) = (&stopped.failure, stopped.lines);
-    match failure {
-        Failure::Open(error) if error.kind() == io::ErrorKind::NotFound => {
-            format!(in alloc; "cannot open {name}: no such file")
-        }
-        Failure::Open(error) => format!(in alloc; "cannot open {name}: {error}"),
-        Failure::Write(error) => format!(in alloc; "cannot write standard output: {error}"),
-        failure if lines == 0 => format!(in alloc; "{name}: {failure}"),
-        failure => { format!(in alloc; "{name}: {failure}; the trace ends after its line {lines}") }
     }
 }
 

@@ -11,7 +11,7 @@ pub enum LogFault {
     #[error("{0}")]
     Kind(NoLog),
     /// The file is a log of Chromium's network stack.
-    #[error("a netlog of Chromium, which is not read here")]
+    #[error("a netlog of Chromium: make a qlog of it by netlog-to-qlog")]
     Netlog,
     /// It has no text.
     #[error("no record")]

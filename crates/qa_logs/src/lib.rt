@@ -4,6 +4,7 @@
 mod choosing;
 mod cutting;
 mod fault;
+mod files;
 mod log;
 mod naming;
 mod opening;
@@ -14,6 +15,7 @@ mod unread;
 pub use choosing::Request;
 pub use cutting::Wants;
 pub use fault::LogFault;
+pub use files::is_log;
 pub use log::Log;
 pub use opening::Opening;
 pub use surveying::Surveying;

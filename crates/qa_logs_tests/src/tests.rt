@@ -1,5 +1,6 @@
 //! Small logs in parts, whose traces were written by hand.
 mod documents;
+mod files;
 mod texts;
 
 use qa_base::Role;

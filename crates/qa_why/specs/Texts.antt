@@ -23,6 +23,7 @@ use Rattle.qa_why.specs.Hints.{hint}
 use Rattle.qa_why.specs.Lines.{line_text}
 use Rattle.qa_why.specs.Meant.{meant}
 use Rattle.qa_why.specs.Values.{wrong_value}
+use Rattle.qa_why.specs.caveats.Remarks.{remarks_at}
 
 -- the line that a verdict is about, the verdict in a word, and the rule or the fault
 unfoldable pub head_tail : ℕ → List ℕ → List ℕ → List ℕ
@@ -50,12 +51,17 @@ refused_sentence u r e k = sentence u e r k ++ codes "\n"
 unfoldable pub grounds : TimeUnit → Rule → Event → Cause → List ℕ
 grounds u r e k = facts_text e k ++ source r ++ rounding_hint u e r k
 
+-- where in a log the line is from, by the key `x_place` that a converter of logs gives it
+abbrev pub place_text : List ℕ → List ℕ
+place_text l = remarks_at (codes "  in the log: ") (codes "x_place") l
+
 -- of line n, which says an event that breaks a rule, with a word for what follows from that; times
 -- are in the unit
 unfoldable pub broken_text : List ℕ → List ℕ → ℕ → TimeUnit → Rule → Event → Cause → List ℕ
     → List ℕ
 broken_text word name n u r e k l =
-    head name n word (rule_text r) ++ refused_sentence u r e k ++ line_text n l ++ grounds u r e k
+    head name n word (rule_text r) ++ refused_sentence u r e k ++ line_text n l ++ place_text l
+    ++ grounds u r e k
 
 -- why line n, which says an event that breaks a rule, is refused
 abbrev pub refused_text : List ℕ → ℕ → TimeUnit → Rule → Event → Cause → List ℕ → List ℕ

@@ -8,3 +8,4 @@ mod remarks;
 
 pub use caveats::Caveats;
 pub use guesses::Guessed;
+pub(crate) use remarks::push_remarks;

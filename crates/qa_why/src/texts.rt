@@ -3,6 +3,7 @@ ghost use Rattle.std.specs.Prelude.{◌≡◌, ◌++◌, IfOk, OnOk, string_byte
 ghost use Rattle.std.specs.Option.{option_copied};
 ghost use Rattle.qa_why.specs.Texts as text;
 
+use crate::caveats::push_remarks;
 use crate::faults::push_fault;
 use crate::hints::hint;
 use crate::lines::{extend, push_line};
@@ -137,6 +138,7 @@ pub fn broken(
     let mut told = head(alloc, heading.name, n, heading.word, what.as_str())?;
     extend(&mut told, sentence.as_bytes())?;
     push_line(alloc, &mut told, n, line)?;
+    push_remarks(alloc, &mut told, "  in the log: ", "x_place", line)?;
     extend(&mut told, grounds.as_bytes())?;
     Ok(told)
 }

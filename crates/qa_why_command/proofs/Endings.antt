@@ -15,6 +15,7 @@ use Rattle.qa_why_command.specs.Ending.{Ended, status_of, stops}
 use Rattle.qa_why_command.specs.Streams.{Streams}
 use Rattle.qa_why_command.specs.Tally.{count_of, counted, is_accepted, is_refused, is_unreadable, one_more, tally_of}
 use Rattle.qa_why_command.specs.Traces.{TellsEach, TellsTrace, is_input}
+use Rattle.qa_why_command.specs.declared.ending.Failure.TheVariants.{Audit, Log, Open}
 use Rattle.qa_why_command.specs.declared.tally.Tally.{Tally}
 
 -- ---- the counts, with one trace more
@@ -59,9 +60,15 @@ counted_last endings (Ok Refused) =
 counted_last endings (Ok Unreadable) =
     same_tally _ _ (sym (none_came is_accepted endings (Ok Unreadable) refl)) (sym (none_came is_refused endings (Ok Unreadable) refl))
     (sym (one_came is_unreadable endings (Ok Unreadable) refl)) (sym (status_last endings (Ok Unreadable)))
-counted_last endings (Err failure) =
-    same_tally _ _ (sym (none_came is_accepted endings (Err failure) refl)) (sym (none_came is_refused endings (Err failure) refl))
-    (sym (none_came is_unreadable endings (Err failure) refl)) (sym (status_last endings (Err failure)))
+counted_last endings (Err Open) =
+    same_tally _ _ (sym (none_came is_accepted endings (Err Open) refl)) (sym (none_came is_refused endings (Err Open) refl))
+    (sym (none_came is_unreadable endings (Err Open) refl)) (sym (status_last endings (Err Open)))
+counted_last endings (Err (Audit fault)) =
+    same_tally _ _ (sym (none_came is_accepted endings (Err (Audit fault)) refl)) (sym (none_came is_refused endings (Err (Audit fault)) refl))
+    (sym (none_came is_unreadable endings (Err (Audit fault)) refl)) (sym (status_last endings (Err (Audit fault))))
+counted_last endings (Err Log) =
+    same_tally _ _ (sym (none_came is_accepted endings (Err Log) refl)) (sym (none_came is_refused endings (Err Log) refl))
+    (sym (one_came is_unreadable endings (Err Log) refl)) (sym (status_last endings (Err Log)))
 
 -- ---- the traces
 

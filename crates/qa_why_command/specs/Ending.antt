@@ -1,5 +1,5 @@
 -- How a trace ends, and the line of its failure.
-use Rattle.std.specs.Prelude.{◌≡◌, ℕ, Bool, true, false, List, codes, Result, Ok, Err}
+use Rattle.std.specs.Prelude.{◌≡◌, ℕ, Bool, true, false, List, [], codes, Result, Ok, Err}
 use Rattle.qa_check.specs.declared.auditing.AuditFault.{AuditFault}
 use Rattle.qa_check.specs.declared.auditing.AuditFault.TheVariants as faults
 use Rattle.qa_check.specs.declared.auditing.Outcome.{Outcome}
@@ -7,7 +7,7 @@ use Rattle.qa_check.specs.declared.auditing.Outcome.TheVariants.{Accepted, Refus
 use Rattle.qa_commands.specs.Names.{line_with}
 use Rattle.qa_why_command.specs.Streams.{Stream, WasTold}
 use Rattle.qa_why_command.specs.declared.ending.Failure.{Failure}
-use Rattle.qa_why_command.specs.declared.ending.Failure.TheVariants.{Audit, Open}
+use Rattle.qa_why_command.specs.declared.ending.Failure.TheVariants.{Audit, Log, Open}
 
 -- a verdict, or why there is none
 abbrev pub Ended : Type 0
@@ -22,7 +22,9 @@ abbrev pub status_of : Ended → ℕ
 status_of (Ok Accepted) = 0
 status_of (Ok Refused) = 1
 status_of (Ok Unreadable) = 2
-status_of (Err failure) = 3
+status_of (Err Open) = 3
+status_of (Err (Audit fault)) = 3
+status_of (Err Log) = 2
 
 -- a failed write ends the program
 abbrev pub stops : Ended → Bool
@@ -31,19 +33,27 @@ stops (Err Open) = false
 stops (Err (Audit faults.Read)) = false
 stops (Err (Audit faults.Write)) = true
 stops (Err (Audit faults.OutOfMemory)) = false
+stops (Err Log) = false
 
--- what the line of a failure begins with
+-- what the line of a failure begins with; that of a log was told before
 abbrev pub message_of : Failure → List ℕ
 message_of Open = codes "qaudit-why: cannot open "
 message_of (Audit faults.Read) = codes "qaudit-why: read fault: "
 message_of (Audit faults.Write) = codes "qaudit-why: write fault: "
 message_of (Audit faults.OutOfMemory) = codes "qaudit-why: out of memory: "
+message_of Log = []
 
 -- the line of a failure, with what failed
 abbrev pub failure_line : Failure → List ℕ → List ℕ
 failure_line failure name = line_with (message_of failure) name
 
+-- the line of a failure was told on this stream, if it has one
+abbrev pub TellsLine : Failure → List ℕ → Stream → Stream → Type 0
+TellsLine Open name old new = WasTold old new (failure_line Open name)
+TellsLine (Audit fault) name old new = WasTold old new (failure_line (Audit fault) name)
+TellsLine Log name old new = new ≡ old
+
 -- where it failed, the line of that failure was told on this stream, and else nothing
 abbrev pub TellsFailure : {A : Type 0} → Result A Failure → List ℕ → Stream → Stream → Type 0
 TellsFailure (Ok a) name old new = new ≡ old
-TellsFailure (Err failure) name old new = WasTold old new (failure_line failure name)
+TellsFailure (Err failure) name old new = TellsLine failure name old new

@@ -1,5 +1,6 @@
 pub mod Commands
 pub mod Ending
+pub mod Logs
 pub mod Noted
 pub mod Streams
 pub mod Tally

@@ -7,6 +7,7 @@ use Rattle.qa_check.specs.declared.auditing.Outcome.TheVariants.{Accepted, Refus
 use Rattle.qa_commands.specs.Ending.{greatest}
 use Rattle.qa_explain.specs.text.Pieces.{numbered}
 use Rattle.qa_why_command.specs.Ending.{Ended, status_of}
+use Rattle.qa_why_command.specs.declared.ending.Failure.TheVariants.{Audit, Log, Open}
 use Rattle.qa_why_command.specs.declared.tally.Tally.{Tally}
 
 -- one more, but no more than 64 bits hold
@@ -25,10 +26,13 @@ with_outcome t Unreadable = record t { unreadable = one_more t.unreadable; statu
 abbrev pub failed : Tally → Tally
 failed t = record t { status = max t.status 3 }
 
--- a trace with a verdict counts by it, and one without as a failure
+-- a trace with a verdict counts by it, a log that gives none as unreadable, and any other failure
+-- as one
 abbrev pub counted : Tally → Ended → Tally
 counted t (Ok outcome) = with_outcome t outcome
-counted t (Err failure) = failed t
+counted t (Err Open) = failed t
+counted t (Err (Audit fault)) = failed t
+counted t (Err Log) = with_outcome t Unreadable
 
 -- ---- of all traces
 
@@ -48,7 +52,9 @@ abbrev pub is_unreadable : Ended → Bool
 is_unreadable (Ok Accepted) = false
 is_unreadable (Ok Refused) = false
 is_unreadable (Ok Unreadable) = true
-is_unreadable (Err failure) = false
+is_unreadable (Err Open) = false
+is_unreadable (Err (Audit fault)) = false
+is_unreadable (Err Log) = true
 
 -- how many traces came to a verdict, but no more than 64 bits hold
 abbrev pub count_of : (Ended → Bool) → List Ended → ℕ

@@ -14,11 +14,12 @@ use Rattle.qa_arguments.specs.why.Asked.{Wanted}
 use Rattle.qa_arguments.specs.declared.why.arguments.Told.{Told}
 use Rattle.qa_arguments.specs.declared.why.arguments.Told.TheVariants as told
 use Rattle.qa_why_command.specs.Ending.{Ended, TellsFailure, ended_by, stops}
+use Rattle.qa_why_command.specs.Logs.{TellsLog}
 use Rattle.qa_why_command.specs.Streams.{Input, Stream, Streams}
 use Rattle.qa_why_command.specs.Tally.{tally_line, tally_of}
 use Rattle.qa_why_command.specs.Telling.{TellsRead}
 use Rattle.qa_why_command.specs.declared.ending.Failure.{Failure}
-use Rattle.qa_why_command.specs.declared.ending.Failure.TheVariants.{Audit, Open}
+use Rattle.qa_why_command.specs.declared.ending.Failure.TheVariants.{Audit, Log, Open}
 use Rattle.qa_why_command.specs.declared.tally.Tally.{Tally}
 use Rattle.qa_format.specs.declared.form.Form.TheVariants as form
 
@@ -34,12 +35,17 @@ TellsInput w name ended before after =
     (result : Result Outcome AuditFault) × (ended ≡ ended_by result)
     × TellsRead w.told w name result before after
 
--- what was told of a file: nothing, where it does not open; or it was read
-abbrev pub TellsFile : Wanted → List ℕ → Ended → Streams → Streams → Type 0
-TellsFile w name ended before after =
+-- what was told of the trace in a file: nothing, where it does not open; or it was read
+abbrev pub TellsTraceIn : Wanted → List ℕ → Ended → Streams → Streams → Type 0
+TellsTraceIn w name ended before after =
     ((ended ≡ Err Open) × (after ≡ before))
     ⊎ ((file : Input) × (file' : Input) × (after.input ≡ before.input)
     × TellsInput w name ended (record before { input = file }) (record after { input = file' }))
+
+-- a file is a trace or a log
+abbrev pub TellsFile : Wanted → List ℕ → Ended → Streams → Streams → Type 0
+TellsFile w name ended before after =
+    TellsTraceIn w name ended before after ⊎ TellsLog w name ended before after
 
 abbrev pub TellsBefore : Wanted → List ℕ → Ended → Streams → Streams → Type 0
 TellsBefore w name ended before after =
@@ -89,6 +95,7 @@ is_counted w = nat_lt 1 (length w.files) && is_text w.told
 abbrev pub WritesCounts : Tally → Result (Unit {0}) Failure → Stream → Stream → Type 0
 WritesCounts t (Ok u) old new = Appends old.0 new.0 (tally_line t) × (new.1 ≡ old.1)
 WritesCounts t (Err Open) old new = ⊥
+WritesCounts t (Err Log) old new = ⊥
 WritesCounts t (Err (Audit faults.Read)) old new = ⊥
 WritesCounts t (Err (Audit faults.Write)) old new =
     Begins old.0 new.0 (tally_line t) × (new.1 ≡ failures_after true old.1)

@@ -1,7 +1,7 @@
 //! How a trace ends, and the line of its failure.
 ghost use Rattle.std.specs.Prelude.{◌≡◌};
 ghost use Rattle.qa_why_command.specs.Ending as defined;
-ghost use Rattle.qa_why_command.specs.Streams.{WasTold};
+ghost use Rattle.qa_why_command.specs.Ending.{TellsLine};
 
 use qa_check::{AuditFault, Outcome, Sink};
 use qa_commands::write_line;
@@ -13,18 +13,24 @@ pub enum Failure {
     Open,
     /// A stream failed, or it is out of memory.
     Audit(AuditFault),
+    /// The file is a log that gives no trace, or none to its end.
+    Log,
 }
 
 impl Failure {
-    /// Writes the line on standard error, of what failed, whose own failure changes nothing.
+    /// Writes the line on standard error, of what failed, whose own failure changes nothing. Of a
+    /// log there is none: what is wrong with it was written where it was found.
     pub fn tell<E: Sink>(self, name: &str, error: &mut E)
-        ensures { WasTold (E.held error.old, E.write_failures error.old)
-            (E.held error.new, E.write_failures error.new) (defined.failure_line self name.now) }
+        ensures { TellsLine self name.now (E.held error.old, E.write_failures error.old)
+            (E.held error.new, E.write_failures error.new) }
     {
+        if matches!(self, Failure::Log) {
+            return;
+        }
         let _begun = write_line(self.message(), name, error);
     }
 
-    /// What the line begins with.
+    /// What the line begins with, if there is one.
     fn message(self) -> &'static str
         ensures { result.now ≡ defined.message_of self }
     {
@@ -33,6 +39,7 @@ impl Failure {
             Failure::Audit(AuditFault::Read) => "qaudit-why: read fault: ",
             Failure::Audit(AuditFault::Write) => "qaudit-why: write fault: ",
             Failure::Audit(AuditFault::OutOfMemory) => "qaudit-why: out of memory: ",
+            Failure::Log => "",
         }
     }
 }

@@ -4,6 +4,7 @@
 
 mod commanding;
 mod ending;
+mod logs;
 mod tally;
 mod telling;
 mod traces;

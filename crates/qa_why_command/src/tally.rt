@@ -36,7 +36,8 @@ impl Tally {
     {
         match ended {
             Ok(outcome) => self.add(*outcome),
-            Err(_) => self.fail(),
+            Err(Failure::Log) => self.add(Outcome::Unreadable),
+            Err(Failure::Open | Failure::Audit(_)) => self.fail(),
         }
     }
 

@@ -4,16 +4,19 @@ ghost use Rattle.std.specs.List.{list_any};
 ghost use Rattle.qa_arguments.specs.why.Asked.{wanted};
 ghost use Rattle.qa_why_command.specs.Ending as endings;
 ghost use Rattle.qa_why_command.specs.Ending.{Ended};
-ghost use Rattle.qa_why_command.specs.Streams.{streams};
+ghost use Rattle.qa_why_command.specs.Streams.{Input, streams};
 ghost use Rattle.qa_why_command.specs.Tally.{tally_of};
 ghost use Rattle.qa_why_command.specs.Traces as defined;
+ghost use Rattle.qa_why_command.specs.Traces.{TellsTraceIn};
 
 use crate::ending::{Failure, ended_by, stops};
+use crate::logs::tell_log;
 use crate::tally::Tally;
 use crate::telling::tell_read;
 use qa_arguments::why::{Inquiry, Told};
 use qa_check::{AuditFault, Metered, Outcome, Sink, Source, write_whole};
 use qa_format::Form;
+use qa_log_command::is_log_file;
 use std::alloc::Global;
 use std::fs;
 use std::rt::Files;
@@ -176,6 +179,28 @@ fn tell_of<R: Files, I: Source, O: Sink, E: Sink>(
     if name == STANDARD_INPUT {
         return ended_by(tell_read(alloc, inquiry, name, input, output, error));
     }
+    match is_log_file(rt, alloc, name) {
+        Ok(false) => tell_file(rt, alloc, inquiry, name, output, error),
+        Ok(true) => tell_log(rt, alloc, inquiry, name, output, error),
+        Err(_) => Err(Failure::Audit(AuditFault::OutOfMemory)),
+    }
+}
+
+/// Tells of the trace in the file of this name.
+fn tell_file<R: Files, O: Sink, E: Sink>(
+    rt: &R,
+    alloc: Global,
+    inquiry: &Inquiry<'_>,
+    name: &str,
+    output: &mut O,
+    error: &mut E,
+) -> Result<Outcome, Failure>
+    ensures { (input : Input) → TellsTraceIn (wanted inquiry.now) name.now result
+        (streams input (O.held output.old, O.write_failures output.old)
+        (E.held error.old, E.write_failures error.old))
+        (streams input (O.held output.new, O.write_failures output.new)
+        (E.held error.new, E.write_failures error.new)) }
+{
     let Ok(file) = fs::open(rt, name) else {
         return Err(Failure::Open);
     };

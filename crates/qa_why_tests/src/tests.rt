@@ -2,5 +2,6 @@
 mod all;
 mod allowed;
 mod around;
+mod logs;
 mod violations;
 mod warnings;

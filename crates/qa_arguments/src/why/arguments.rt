@@ -284,6 +284,6 @@ fn files_argument<'a>(alloc: Global) -> Arg<'a>
     ensures local { result.global ≡ false }
 {
     Arg::new(alloc, FILE)
-        .help("A trace; - is standard input, which is also read where no file is named")
+        .help("A trace or a qlog; -, or no file, is a trace on standard input")
         .action(ArgAction::Append)
 }

@@ -1,0 +1,6 @@
+use Rattle.qa_log_command.proofs.Lines.{text_is_lines}
+use Rattle.qa_log_command.proofs.converting.give.Goals as goal
+
+pub returns-clause-written : goal.returns-clause-written
+returns-clause-written g c =
+    (c.text.result.now, text_is_lines _ c.text.ensures, c.write_text.ensures.written)

@@ -1,0 +1,121 @@
+//! The lines of the trace of a log, as they are written and as they are audited.
+
+ghost use Rattle.std.specs.Prelude.{◌≡◌, ◌⊎◌, false};
+ghost use Rattle.qa_convert.specs.OwnKeys.{AreEventLines, IsHeaderLine};
+ghost use Rattle.qa_log_command.specs.Failing.{fails_to_write};
+
+use crate::bytes::{Bytes, Parts};
+use crate::failure::Failure;
+use qa_logs::{Opening, Reading, Request, Trace, Wants};
+use std::alloc::Global;
+use std::io::Read;
+use std::rt::Files;
+
+/// The lines of the trace of a log, some at a time. The log is read for the third time as they are
+/// asked for.
+#[derive(Drop)]
+pub struct Lines<'a, F> {
+    trace: Trace,
+    parts: Parts<'a, F>,
+    /// Whether nothing follows the lines that `text` returns.
+    is_ended: bool,
+    /// How many lines went before those that `text` returns.
+    passed: u64,
+}
+
+impl<'a, F: Read> Lines<'a, F> {
+    /// The header, with its LF; or once `advance` was called lines of events, each ended by LF, and
+    /// perhaps none.
+    pub fn text(&self) -> &[u8]
+        ensures { IsHeaderLine result.now ⊎ AreEventLines result.now }
+    {
+        self.trace.text()
+    }
+
+    /// Goes on to the lines that the next part of the log gives, and behind the last part to those
+    /// that its end gives. Returns false if there are no more.
+    ///
+    /// An error leaves the lines that were before the fault, and nothing follows them.
+    pub fn advance(&mut self) -> Result<bool, Failure>
+        ensures { fails_to_write result ≡ false }
+    {
+        self.passed = self.count();
+        self.trace.clear();
+        if self.is_ended {
+            return Ok(false);
+        }
+        self.is_ended = true;
+        if self.parts.advance()? && self.trace.feed(self.parts.part())? == Wants::More {
+            self.is_ended = false;
+        } else {
+            self.trace.end()?;
+        }
+        Ok(true)
+    }
+
+    /// How many lines there are so far, with those that `text` returns.
+    pub fn count(&self) -> u64 {
+        self.passed.saturating_add(count_lines(self.text()))
+    }
+
+    /// The trace, with what is told of it.
+    pub fn trace(&self) -> &Trace {
+        &self.trace
+    }
+
+    /// The trace, with what is told of it.
+    pub fn into_trace(self) -> Trace {
+        let Lines { trace, .. } = self;
+        trace
+    }
+}
+
+/// The lines of the trace of a log with these bytes, from the first on, which is the header. The log
+/// is read twice before.
+pub fn lines_of<'a, R: Files>(
+    rt: &R,
+    alloc: Global,
+    bytes: &'a Bytes<'_>,
+    request: Request,
+) -> Result<Lines<'a, R::File>, Failure>
+    ensures { fails_to_write result ≡ false }
+{
+    let mut opening = Opening::new(alloc);
+    read(&mut bytes.parts(rt, alloc)?, &mut opening)?;
+    let log = opening.end()?;
+    let mut surveying = log.survey(request)?;
+    read(&mut bytes.parts(rt, alloc)?, &mut surveying)?;
+    Ok(Lines {
+        trace: surveying.end(&log)?,
+        parts: bytes.parts(rt, alloc)?,
+        is_ended: false,
+        passed: 0,
+    })
+}
+
+/// Reads a log part by part, up to its end, or until no more of it is wanted.
+fn read<F: Read, T: Reading>(parts: &mut Parts<'_, F>, reading: &mut T) -> Result<(), Failure>
+    ensures { fails_to_write result ≡ false }
+{
+    'parts: for _i in 0..u64::MAX {
+        if !parts.advance()? {
+            break;
+        }
+        match reading.feed(parts.part())? {
+            Wants::More => {}
+            Wants::Nothing => break,
+        }
+    }
+    Ok(())
+}
+
+/// How many lines a text has, each ended by LF.
+fn count_lines(text: &[u8]) -> u64 {
+    let mut lines: u64 = 0;
+    for byte in text {
+        if *byte == b'\n' {
+            lines = lines.saturating_add(1);
+        }
+    }
+    lines
+}
