@@ -39,7 +39,7 @@ tests_in_python := $(tests_of_pages) test_qlog test_captures $(runner_tests) tes
 
 # All programs in Python, by the places where their names are unlike each other.
 python := $(addprefix conformance/,allocations contracts crates cuts failing fuzz_library large library links made_up malicious memory mutations reasons recipes \
-	refusals run side_by_side simulate unproved words wrong commands) \
+	logs refusals run side_by_side simulate unproved words wrong commands) \
 	conformance/fuzz/instrument conformance/lines/make.py $(wildcard conformance/*.py)
 python_of_fuzz := conformance/fuzz/run
 # The pages, and what measures and tests them.
@@ -57,7 +57,7 @@ python_of_bench := $(addprefix bench/,files instructions library logs peers run 
 # The programs of conformance/ over what the gate built, the longest first. None waits for another.
 conformance := conformance-cuts conformance-failing conformance-refusals conformance-simulate conformance-mutations \
 	conformance-malicious conformance-large conformance-run conformance-reasons conformance-rows conformance-departures \
-	conformance-allocations conformance-memory conformance-side-by-side conformance-converted
+	conformance-allocations conformance-memory conformance-side-by-side conformance-converted conformance-logs
 
 # What is handed to the library for C, in each language.
 bindings := conformance-library conformance-recipes bindings-rust bindings-go bindings-python
@@ -207,6 +207,10 @@ conformance-memory:
 # Both converters, over the real logs here and over some hundred that nobody would write.
 conformance-converted:
 	qlog/compare --native $(program_of_logs) --mutations 600
+
+# `qaudit-why` over logs, beside the converter.
+conformance-logs:
+	conformance/logs $(program_why) $(program_of_logs)
 
 conformance-library: $(library)
 	conformance/library $(library)
