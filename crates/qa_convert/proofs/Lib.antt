@@ -8,6 +8,7 @@ pub mod Guessed
 pub mod OneLine
 pub mod Opened
 pub mod Ordered
+pub mod Passed
 pub mod PassedOver
 pub mod Spliced
 pub mod Texts

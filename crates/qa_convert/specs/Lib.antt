@@ -7,6 +7,7 @@ pub mod Packets
 pub mod Orders
 pub mod Outputs
 pub mod OwnKeys
+pub mod Passing
 pub mod Places
 pub mod Rounding
 pub mod Said

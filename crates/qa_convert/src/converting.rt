@@ -1,4 +1,10 @@
 //! The second reading of a log: its texts, one after another, as the lines of a trace.
+ghost use Rattle.std.specs.Prelude.{◌≡◌, ◌∷◌, [], IfOk, OnOk, false};
+ghost use Rattle.qa_convert.specs.Groups.{Gathers};
+ghost use Rattle.qa_convert.specs.Orders.{Follows};
+ghost use Rattle.qa_convert.specs.Passing as passing;
+ghost use Rattle.qa_convert.specs.Passing.{Passes, counted, waiting};
+
 use crate::conversion::{Conversion, Terms};
 use crate::event::{At, LoggedEvent, Said, losses_of};
 use crate::groups::{Group, Groups};
@@ -90,12 +96,16 @@ impl Converting {
     }
 
     /// Takes the next text, which begins there. After an error it is of no use.
-    pub(crate) fn push(&mut self, text: &[u8], place: Place) -> Result<(), NoMore> {
+    pub(crate) fn push(
+        &mut self,
+        scratch: &mut Scratch,
+        text: &[u8],
+        place: Place,
+    ) -> Result<(), NoMore> {
         let Ok(text) = str::from_utf8(text) else {
             return Err(NoMore::Record(NoRecord::NotJson));
         };
-        let mut scratch = Scratch::new(self.alloc);
-        match Tape::parse(text, &mut scratch, Vec::new(self.alloc)) {
+        match Tape::parse(text, scratch, Vec::new(self.alloc)) {
             Ok(tape) => self.take(&tape.root(), place),
             Err(JsonError::Invalid) => Err(NoMore::Record(NoRecord::NotJson)),
             Err(_) => Err(NoMore::Record(NoRecord::OutOfMemory)),
@@ -168,37 +178,63 @@ impl Converting {
     }
 
     /// Passes an event on, if it is behind a Retry, and no loss of what a probe only sends again.
-    fn pass(&mut self, event: LoggedEvent) -> Result<(), NoLine> {
-        if let Said::Lost(lost) = &event.said {
-            if lost.is_repeated {
-                return Ok(self.conversion.writing.omit(Omission::LossOfProbe)?);
-            }
-        }
-        let Some(retry) = self.retry else {
-            return self.arrange(event);
-        };
-        if event.at.index < retry.first {
-            if matches!(&event.said, Said::Sent(_)) {
-                self.sent_before = self.sent_before.saturating_add(1);
-            }
+    fn pass(&mut self, event: LoggedEvent) -> Result<(), NoLine>
+        ensures { OnOk result (Passes (waiting self.old.events.items self.old.order)
+            self.old.groups self.old.ready.items (counted self.old.retry event)
+            (waiting self.new.events.items self.new.order) self.new.groups self.new.ready.items) }
+    {
+        if self.leaves_out(&event)? {
             return Ok(());
-        }
-        if is_before(&event.said, &retry) {
-            return Ok(self.conversion.writing.omit(Omission::LossBeforeRetry)?);
         }
         self.arrange(event)
     }
 
+    /// Whether an event says nothing of the trace; if so, it is counted.
+    fn leaves_out(&mut self, event: &LoggedEvent) -> Result<bool, NoLine>
+        ensures left { IfOk result (λ left. left ≡ passing.is_left_out self.old.retry event.now) }
+        ensures order { self.new.order ≡ self.old.order }
+        ensures groups { self.new.groups ≡ self.old.groups }
+        ensures events { self.new.events.items ≡ self.old.events.items }
+        ensures ready { self.new.ready.items ≡ self.old.ready.items }
+    {
+        if is_of_probe(&event.said) {
+            self.conversion.writing.omit(Omission::LossOfProbe)?;
+            return Ok(true);
+        }
+        let Some(retry) = self.retry else {
+            return Ok(false);
+        };
+        if event.at.index < retry.first {
+            let is_sent = matches!(&event.said, Said::Sent(_));
+            self.sent_before = self.sent_before.saturating_add(u64::from(is_sent));
+            return Ok(true);
+        }
+        if is_before(&event.said, &retry) {
+            self.conversion.writing.omit(Omission::LossBeforeRetry)?;
+            return Ok(true);
+        }
+        Ok(false)
+    }
+
     /// Takes an event in the order in which things happened, and writes the groups that are
     /// complete.
-    fn arrange(&mut self, event: LoggedEvent) -> Result<(), NoLine> {
+    fn arrange(&mut self, event: LoggedEvent) -> Result<(), NoLine>
+        ensures { OnOk result (Passes (waiting self.old.events.items self.old.order)
+            self.old.groups self.old.ready.items (event ∷ [])
+            (waiting self.new.events.items self.new.order) self.new.groups self.new.ready.items) }
+    {
         self.queue(event)?;
         self.group()?;
         self.write_groups()
     }
 
     /// Takes an event in the order in which things happened.
-    fn queue(&mut self, event: LoggedEvent) -> Result<(), AllocError> {
+    fn queue(&mut self, event: LoggedEvent) -> Result<(), AllocError>
+        ensures order { OnOk result (Follows (waiting self.old.events.items self.old.order)
+            (event ∷ []) (waiting self.new.events.items self.new.order)) }
+        ensures groups { self.new.groups ≡ self.old.groups }
+        ensures ready { self.new.ready.items ≡ self.old.ready.items }
+    {
         match &mut self.order {
             Some(order) => order.push(event, &mut self.events),
             None => {
@@ -209,7 +245,12 @@ impl Converting {
     }
 
     /// Takes the events in their order into groups.
-    fn group(&mut self) -> Result<(), AllocError> {
+    fn group(&mut self) -> Result<(), AllocError>
+        ensures groups { OnOk result (Gathers self.old.groups self.old.events.items self.new.groups
+            self.old.ready.items self.new.ready.items) }
+        ensures events { OnOk result (self.new.events.items ≡ []) }
+        ensures order { self.new.order ≡ self.old.order }
+    {
         while let Some(event) = self.events.pop_front() {
             self.groups.push(event, &mut self.ready)?;
         }
@@ -217,7 +258,12 @@ impl Converting {
     }
 
     /// Writes groups that are complete.
-    fn write_groups(&mut self) -> Result<(), NoLine> {
+    fn write_groups(&mut self) -> Result<(), NoLine>
+        ensures written { OnOk result (self.new.ready.items ≡ []) }
+        ensures events { self.new.events.items ≡ self.old.events.items }
+        ensures order { self.new.order ≡ self.old.order }
+        ensures groups { self.new.groups ≡ self.old.groups }
+    {
         while let Some(group) = self.ready.pop_front() {
             self.conversion.write(group)?;
         }
@@ -226,9 +272,7 @@ impl Converting {
 
     /// The log ends, perhaps torn off.
     pub(crate) fn end(&mut self, is_torn: bool) -> Result<(), NoLine> {
-        if let Some(order) = &mut self.order {
-            order.end(is_torn, &mut self.events)?;
-        }
+        self.let_go(is_torn)?;
         self.group()?;
         self.groups.end(is_torn, &mut self.ready)?;
         self.write_groups()?;
@@ -239,6 +283,19 @@ impl Converting {
         Ok(())
     }
 
+    /// Lets go the events that wait for their order.
+    fn let_go(&mut self, is_torn: bool) -> Result<(), AllocError>
+        ensures order { OnOk result (is_torn ≡ false → Follows
+            (waiting self.old.events.items self.old.order) [] self.new.events.items) }
+        ensures groups { self.new.groups ≡ self.old.groups }
+        ensures ready { self.new.ready.items ≡ self.old.ready.items }
+    {
+        match &mut self.order {
+            Some(order) => order.end(is_torn, &mut self.events),
+            None => Ok(()),
+        }
+    }
+
     /// Tells that the trace begins after a Retry.
     fn warn_of(&mut self, retry: Retry) -> Result<(), AllocError> {
         let text = retry.text(self.alloc, self.sent_before)?;
@@ -247,8 +304,20 @@ impl Converting {
     }
 }
 
+/// Whether an event is a loss of what a probe only sends again.
+fn is_of_probe(said: &Said) -> bool
+    ensures { result ≡ passing.is_of_probe said.now }
+{
+    match said {
+        Said::Lost(lost) => lost.is_repeated,
+        _ => false,
+    }
+}
+
 /// Whether an event is a loss of a packet that was sent before a Retry.
-fn is_before(said: &Said, retry: &Retry) -> bool {
+fn is_before(said: &Said, retry: &Retry) -> bool
+    ensures { result ≡ passing.is_of_sent_before retry.now said.now }
+{
     match said {
         Said::Lost(lost) => match *retry.numbers.of(lost.space) {
             Some(last) => lost.number.get() <= last,

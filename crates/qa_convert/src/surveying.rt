@@ -135,12 +135,16 @@ impl Surveying {
     }
 
     /// Looks at the next text, which begins there. After `OutOfMemory` it is of no use.
-    pub(crate) fn push(&mut self, text: &[u8], place: Place) -> Result<(), NoRecord> {
+    pub(crate) fn push(
+        &mut self,
+        scratch: &mut Scratch,
+        text: &[u8],
+        place: Place,
+    ) -> Result<(), NoRecord> {
         let Ok(text) = str::from_utf8(text) else {
             return Err(NoRecord::NotJson);
         };
-        let mut scratch = Scratch::new(self.alloc);
-        match Tape::parse(text, &mut scratch, Vec::new(self.alloc)) {
+        match Tape::parse(text, scratch, Vec::new(self.alloc)) {
             Ok(tape) => self.see(&tape.root(), place),
             Err(JsonError::Invalid) => Err(NoRecord::NotJson),
             Err(_) => Err(NoRecord::OutOfMemory),

@@ -13,6 +13,7 @@ use crate::place::Place;
 use crate::survey::{NoSurvey, Survey};
 use crate::surveying::{NoRecord, Surveying};
 use crate::writing::{NoLine, Writing};
+use json::Scratch;
 use qa_base::{Controller, Role};
 use qa_qlog::Head;
 use std::alloc::{AllocError, Global};
@@ -79,6 +80,9 @@ pub struct Asked {
 pub struct FirstReading {
     alloc: Global,
     asked: Asked,
+    /// Memory of 16 KiB that each text is read with. To make it anew would take longer than the
+    /// reading of a record.
+    scratch: Scratch,
     surveying: Surveying,
 }
 
@@ -90,6 +94,7 @@ impl FirstReading {
         FirstReading {
             alloc,
             asked,
+            scratch: Scratch::new(alloc),
             surveying,
         }
     }
@@ -97,7 +102,7 @@ impl FirstReading {
     /// Looks at the next text, which begins there. `NotJson` leaves all as it was; after any other
     /// error it is of no use.
     pub fn push(&mut self, text: &[u8], place: Place) -> Result<(), NoRecord> {
-        self.surveying.push(text, place)
+        self.surveying.push(&mut self.scratch, text, place)
     }
 
     /// Passes over a text that is not JSON, and that says nothing of packets.
@@ -115,6 +120,7 @@ impl FirstReading {
         let FirstReading {
             alloc,
             asked,
+            scratch,
             surveying,
         } = self;
         let survey = surveying.survey;
@@ -141,7 +147,11 @@ impl FirstReading {
         };
         let connection = asked.connection;
         let converting = Converting::new(alloc, head, connection, terms, survey, writing);
-        Ok(SecondReading { line, converting })
+        Ok(SecondReading {
+            line,
+            scratch,
+            converting,
+        })
     }
 }
 
@@ -176,6 +186,7 @@ fn doubt(
 #[derive(Drop)]
 pub struct SecondReading {
     line: HeaderLine,
+    scratch: Scratch,
     converting: Converting,
 }
 
@@ -183,7 +194,7 @@ impl SecondReading {
     /// Takes the next text, which begins there. After an error it is of no use but for the lines
     /// that were written.
     pub fn push(&mut self, text: &[u8], place: Place) -> Result<(), NoMore> {
-        self.converting.push(text, place)
+        self.converting.push(&mut self.scratch, text, place)
     }
 
     /// Passes over a text that is not JSON, and that says nothing of packets: a report perhaps.

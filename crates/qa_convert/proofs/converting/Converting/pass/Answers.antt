@@ -1,0 +1,10 @@
+use Rattle.std.proofs.Common.{◌∙◌, sym}
+use Rattle.qa_convert.proofs.Passed.{passes_left_out}
+use Rattle.qa_convert.proofs.converting.Converting.pass.Goals as goal
+
+pub returns-then-branch : goal.returns-then-branch
+returns-then-branch c =
+    let w = c.args.self.now in
+    let left = c.in_ok-leaves_out.ensures in
+    rw (left.order, left.groups, left.events, left.ready)
+    (passes_left_out w.retry c.args.event _ w.groups w.ready.items (sym left.left ∙ c.if-branch.true))
