@@ -22,7 +22,13 @@ fn logs(rt: HostRuntime) {
 #[test]
 fn no_logs(rt: HostRuntime) {
     let alloc = rt.alloc();
-    assert!(rt; is(alloc, b"{\"event\":\"header\",\"traces\":1,\"qlog_version\":1}\n", false));
+    assert!(rt;
+        is(
+            alloc,
+            b"{\"event\":\"header\",\"traces\":1,\"qlog_version\":1}\n",
+            false
+        )
+    );
     assert!(rt; is(alloc, b"{\"event\":\"sent\"}\n", false));
     assert!(rt; is(alloc, b"{\n", false));
     assert!(rt; is(alloc, b"", false));
