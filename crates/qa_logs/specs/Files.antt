@@ -1,5 +1,5 @@
 -- Which files are logs.
-use Rattle.std.specs.Prelude.{◌⊎◌, ℕ, List, codes, Result, Ok, Err}
+use Rattle.std.specs.Prelude.{◌⊎◌, ⊤, ℕ, List, codes, Result, Ok, Err}
 use Rattle.memchr.specs.Find.{OccursAt}
 use Rattle.qa_qlog.specs.Kinds.{kind_of}
 use Rattle.qa_qlog.specs.declared.kinds.Kind.{Kind}
