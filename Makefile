@@ -35,7 +35,7 @@ tests_of_pages := test_page_in_browser test_page_opened test_page_without_browse
 in_browser := $(patsubst page/tests/%.py,tests.%,$(wildcard page/tests/test_browser_*.py))
 without_browser := $(patsubst page/tests/%.py,tests.%,$(filter-out page/tests/test_browser%,$(wildcard page/tests/test_*.py)))
 # The tests and checks that need no proof, the longest first.
-tests_in_python := $(tests_of_pages) test_qlog test_captures $(runner_tests) test_release links made_up contracts crates words wrong commands
+tests_in_python := $(tests_of_pages) test_qlog test_netlog test_captures $(runner_tests) test_release links made_up contracts crates words wrong commands
 
 # All programs in Python, by the places where their names are unlike each other.
 python := $(addprefix conformance/,allocations contracts crates cuts failing fuzz_library large library links made_up malicious memory mutations reasons recipes \
@@ -46,6 +46,7 @@ python_of_fuzz := conformance/fuzz/run
 python_of_page := page/qaudit-page page/qaudit-matrix $(wildcard page/qaudit_page/*.py)
 python_of_page_tests := page/measure page/picture $(wildcard page/*.py page/tests/*.py)
 python_of_qlog := qlog/qlog-to-trace qlog/compare qlog/dialects qlog/fuzz $(wildcard qlog/qlog_to_trace/*.py qlog/tests/*.py)
+python_of_netlog := netlog/netlog-to-qlog $(wildcard netlog/netlog_to_qlog/*.py netlog/*.py)
 # captures/transfer.py runs where aioquic is, and is checked for style alone.
 python_of_captures := captures/audit.py captures/causes.py captures/lateness captures/logs.py captures/run captures/stacks.py captures/table captures/test_causes.py captures/test_delay.py captures/test_lateness.py captures/test_upload.py examples/delay.py examples/logger.py
 python_of_release := $(addprefix release/,archive edits minutes prove unproved) $(wildcard release/*.py)
@@ -63,7 +64,7 @@ conformance := conformance-cuts conformance-failing conformance-refusals conform
 bindings := conformance-library conformance-recipes bindings-rust bindings-go bindings-python
 
 .PHONY: deb help run build quick lib one_byte lines test test_library gate conformance $(bindings) $(conformance) \
-	links made_up contracts crates words wrong commands unproved $(runner_tests) test_qlog fuzz fuzz_library test_captures test_release test_page $(tests_of_pages) pictures lint edits tried bench install dist clean
+	links made_up contracts crates words wrong commands unproved $(runner_tests) test_qlog test_netlog fuzz fuzz_library test_captures test_release test_page $(tests_of_pages) pictures lint edits tried bench install dist clean
 
 help:
 	@echo 'make run       audits $(examples)'
@@ -120,7 +121,7 @@ test:
 	@echo 'make test proves all crates and tries their must-fail edits, and runs the tests in Python beside that;'
 	@echo 'then it runs the programs over conformance/, and last the tests of the pages:'
 	@release/minutes --say test
-	$(MAKE) --no-print-directory -j 2 gate links made_up contracts crates words wrong commands $(runner_tests) test_qlog test_captures test_release
+	$(MAKE) --no-print-directory -j 2 gate links made_up contracts crates words wrong commands $(runner_tests) test_qlog test_netlog test_captures test_release
 	$(MAKE) --no-print-directory -j 4 --output-sync=target $(conformance)
 	QAUDIT_WHY='$(abspath $(program_why))' $(MAKE) --no-print-directory test_page
 	if [ -f $(library) ]; then $(MAKE) --no-print-directory test_library; else \
@@ -143,7 +144,7 @@ test_library: $(bindings)
 gate:
 	rt ci
 
-conformance: $(conformance) links made_up contracts crates words wrong commands $(runner_tests) test_qlog test_captures test_release
+conformance: $(conformance) links made_up contracts crates words wrong commands $(runner_tests) test_qlog test_netlog test_captures test_release
 
 conformance-cuts:
 	conformance/cuts $(program)
@@ -270,6 +271,10 @@ $(runner_tests):
 test_qlog:
 	cd qlog && python3 -m unittest
 
+# The qlogs of netlogs, and logs that are compressed.
+test_netlog:
+	cd netlog && python3 -m unittest
+
 # No part of `test`, for it takes five minutes; a hundred of its cases are in test_qlog.
 fuzz:
 	qlog/fuzz
@@ -314,6 +319,7 @@ lint:
 	mypy $(python_of_fuzz)
 	mypy $(python_of_bench)
 	MYPYPATH=qlog mypy $(python_of_qlog)
+	MYPYPATH=netlog:qlog mypy $(python_of_netlog)
 	mypy $(python_of_bindings)
 	MYPYPATH=release mypy $(python_of_release)
 	mypy $(python_of_captures)
@@ -325,7 +331,7 @@ lint:
 	if command -v ruff > /dev/null; then ruff check; else \
 		flake8 --max-line-length 100 --extend-ignore E203,W503 \
 			--per-file-ignores '*/test_*.py:N802' $(python) $(python_of_fuzz) $(python_of_bench) \
-			$(python_of_qlog) $(python_of_release) $(python_of_captures) captures/transfer.py \
+			$(python_of_qlog) $(python_of_netlog) $(python_of_release) $(python_of_captures) captures/transfer.py \
 			$(python_of_page) $(python_of_page_tests) $(python_of_recipes) conformance/rows conformance/departures conformance/stand_in; fi
 
 # No part of `test`, for no number of seconds is right on every machine.
