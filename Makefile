@@ -123,7 +123,8 @@ test:
 	@release/minutes --say test
 	$(MAKE) --no-print-directory -j 2 gate links made_up contracts crates words wrong commands $(runner_tests) test_qlog test_netlog test_captures test_release
 	$(MAKE) --no-print-directory -j 4 --output-sync=target $(conformance)
-	QAUDIT_WHY='$(abspath $(program_why))' $(MAKE) --no-print-directory test_page
+	QAUDIT_WHY='$(abspath $(program_why))' QLOG_TO_TRACE='$(abspath $(program_of_logs))' \
+		$(MAKE) --no-print-directory test_page
 	if [ -f $(library) ]; then $(MAKE) --no-print-directory test_library; else \
 		echo '$(library) is not built, so what C is handed is not tried: `make test_library` builds it first'; fi
 
@@ -295,7 +296,7 @@ test_release:
 
 # Pages: their columns, their HTML, and in a headless Chromium what a person does. It wants Debian's libjs-dygraphs, and
 # chromium-driver and python3-selenium, and says what it leaves out. QAUDIT_WHY names a program that was proved; without one
-# page/stand_in.py stands in.
+# page/stand_in.py stands in, and without QLOG_TO_TRACE the converter in Python.
 test_page:
 	cd page && python3 -m unittest
 
@@ -323,8 +324,8 @@ lint:
 	mypy $(python_of_bindings)
 	MYPYPATH=release mypy $(python_of_release)
 	mypy $(python_of_captures)
-	MYPYPATH=page:qlog mypy $(python_of_page)
-	MYPYPATH=page:qlog mypy $(python_of_page_tests)
+	MYPYPATH=page:netlog:qlog mypy $(python_of_page)
+	MYPYPATH=page:netlog:qlog mypy $(python_of_page_tests)
 	MYPYPATH=conformance mypy --config-file= --strict conformance/rows
 	MYPYPATH=conformance mypy --config-file= --strict conformance/departures
 	MYPYPATH=conformance:page mypy --config-file= --strict conformance/stand_in
