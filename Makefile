@@ -10,15 +10,16 @@ release := qaudit-$(shell cat VERSION)-x86_64-linux
 # A copy of the program that `make build` makes. The gate takes away what lies in crates/*/out while it runs.
 built := bin/qaudit
 built_why := bin/qaudit-why
+built_logs := bin/qlog-to-trace
 # The program as the gate leaves it.
 program := crates/qaudit/out/qaudit
-# The program that says why, likewise.
+# The program that says why, and the converter of logs, likewise.
 program_why := crates/qaudit_why/out/qaudit_why
 # The same audit by a reader and a writer that move one byte a call, a test of it.
 program_by_one_byte := crates/one_byte/out/one_byte
 # The reader of lines by itself, a test of it.
 program_of_lines := crates/lines/out/lines
-# The converter of logs in Rattle, which is compared with that in Python.
+# The converter of logs, which is compared with the reference in Python.
 program_of_logs := crates/qlog_to_trace/out/qlog_to_trace
 # Each call over a trace, to be run with each allocation refused.
 program_without_memory := crates/without_memory/out/without_memory
@@ -45,7 +46,8 @@ python_of_fuzz := conformance/fuzz/run
 # The pages, and what measures and tests them.
 python_of_page := page/qaudit-page page/qaudit-matrix $(wildcard page/qaudit_page/*.py)
 python_of_page_tests := page/measure page/picture $(wildcard page/*.py page/tests/*.py)
-python_of_qlog := qlog/qlog-to-trace qlog/compare qlog/dialects qlog/fuzz $(wildcard qlog/qlog_to_trace/*.py qlog/tests/*.py)
+python_of_qlog := $(addprefix conformance/qlog/,qlog-to-trace compare dialects fuzz) \
+	$(wildcard conformance/qlog/qlog_to_trace/*.py conformance/qlog/tests/*.py)
 python_of_netlog := netlog/netlog-to-qlog $(wildcard netlog/netlog_to_qlog/*.py netlog/*.py)
 # captures/transfer.py runs where aioquic is, and is checked for style alone.
 python_of_captures := captures/audit.py captures/causes.py captures/lateness captures/logs.py captures/run captures/stacks.py captures/table captures/test_causes.py captures/test_delay.py captures/test_lateness.py captures/test_upload.py examples/delay.py examples/logger.py
@@ -69,7 +71,7 @@ bindings := conformance-library conformance-recipes bindings-rust bindings-go bi
 help:
 	@echo 'make run       audits $(examples)'
 	@echo '               without a proof, in about a minute'
-	@echo 'make build     proves the programs and leaves $(built) and $(built_why)'
+	@echo 'make build     proves the programs and leaves $(built), $(built_why) and $(built_logs)'
 	@echo 'make quick     runs the tests that need no proof, in a few minutes'
 	@echo 'make lib       proves and builds the library for C, $(library)'
 	@echo 'make test      runs the merge gate, and then the program over conformance/'
@@ -94,11 +96,12 @@ help:
 run:
 	@release/unproved $(examples)
 
-build: $(built_why)
+build: $(built_logs)
 
 # What the programs are made of.
 crates_of_qaudit := $(shell find crates/qa_*/src crates/qa_*/specs crates/qa_*/proofs crates/qaudit/src)
-$(built) $(built_why) &: crates.txt HANDLES $(crates_of_qaudit) $(shell find crates/qaudit_why/src)
+$(built) $(built_why) $(built_logs) &: crates.txt HANDLES $(crates_of_qaudit) \
+		$(shell find crates/qaudit_why/src crates/qlog_to_trace/src)
 	@release/prove $(PROVE_OPTIONS) bin
 
 lib: $(library_shared)
@@ -208,7 +211,7 @@ conformance-memory:
 
 # Both converters, over the real logs here and over some hundred that nobody would write.
 conformance-converted:
-	qlog/compare --native $(program_of_logs) --mutations 600
+	conformance/qlog/compare --native $(program_of_logs) --mutations 600
 
 conformance-library: $(library)
 	conformance/library $(library)
@@ -268,9 +271,9 @@ tried:
 $(runner_tests):
 	python3 conformance/$@.py
 
-# The converter of logs, over small logs and those of conformance/real, and the example of a logger.
+# The reference of the converter of logs, over small logs and those of conformance/real, and the example of a logger.
 test_qlog:
-	cd qlog && python3 -m unittest
+	cd conformance/qlog && python3 -m unittest
 
 # The qlogs of netlogs, and logs that are compressed.
 test_netlog:
@@ -278,7 +281,7 @@ test_netlog:
 
 # No part of `test`, for it takes five minutes; a hundred of its cases are in test_qlog.
 fuzz:
-	qlog/fuzz
+	conformance/qlog/fuzz
 
 # No part of `test` either: it takes ten minutes, and needs Debian's clang and libclang-rt-14-dev.
 fuzz_library: $(library)
@@ -319,13 +322,13 @@ lint:
 	mypy $(python)
 	mypy $(python_of_fuzz)
 	mypy $(python_of_bench)
-	MYPYPATH=qlog mypy $(python_of_qlog)
-	MYPYPATH=netlog:qlog mypy $(python_of_netlog)
+	MYPYPATH=conformance/qlog mypy $(python_of_qlog)
+	MYPYPATH=netlog:conformance/qlog mypy $(python_of_netlog)
 	mypy $(python_of_bindings)
 	MYPYPATH=release mypy $(python_of_release)
 	mypy $(python_of_captures)
-	MYPYPATH=page:netlog:qlog mypy $(python_of_page)
-	MYPYPATH=page:netlog:qlog mypy $(python_of_page_tests)
+	MYPYPATH=page:netlog mypy $(python_of_page)
+	MYPYPATH=page:netlog:conformance/qlog mypy $(python_of_page_tests)
 	MYPYPATH=conformance mypy --config-file= --strict conformance/rows
 	MYPYPATH=conformance mypy --config-file= --strict conformance/departures
 	MYPYPATH=conformance:page mypy --config-file= --strict conformance/stand_in
@@ -347,11 +350,11 @@ bench: build
 
 # A release is a folder that installs itself, so that there is one way to install.
 install: build lib
-	release/pack $(built) $(built_why) $(library) $(library_shared) bin/$(release)
+	release/pack $(built) $(built_why) $(built_logs) $(library) $(library_shared) bin/$(release)
 	bin/$(release)/install '$(DESTDIR)$(PREFIX)'
 
 dist: tried build lib
-	release/pack $(built) $(built_why) $(library) $(library_shared) bin/$(release)
+	release/pack $(built) $(built_why) $(built_logs) $(library) $(library_shared) bin/$(release)
 	release/tarball bin/$(release) dist/$(release).tar.gz
 	@echo dist/$(release).tar.gz
 

@@ -12,7 +12,7 @@ from typing import Any
 HERE = Path(__file__).resolve().parent
 TOP = HERE.parent
 PROGRAM = HERE / "netlog-to-qlog"
-REFERENCE = TOP / "qlog"
+REFERENCE = TOP / "conformance" / "qlog"
 REAL = TOP / "conformance" / "real" / "traces"
 sys.path.append(str(REFERENCE))
 

@@ -18,7 +18,7 @@ STAND_IN = PAGE / "stand_in.py"
 # The program that the commands run in tests: one that was proved where the environment names it.
 PROGRAM = Path(os.environ.get("QAUDIT_WHY", STAND_IN)).resolve()
 # The converter of logs, likewise; without one the reference in Python converts them.
-REFERENCE = PROJECT / "qlog"
+REFERENCE = PROJECT / "conformance" / "qlog"
 CONVERTER = Path(os.environ.get("QLOG_TO_TRACE", REFERENCE / "qlog-to-trace")).resolve()
 PROGRAMS = ("--program", str(PROGRAM), "--converter", str(CONVERTER))
 sys.path += [str(PROJECT / "conformance"), str(REFERENCE)]
