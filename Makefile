@@ -10,15 +10,16 @@ release := qaudit-$(shell cat VERSION)-x86_64-linux
 # A copy of the program that `make build` makes. The gate takes away what lies in crates/*/out while it runs.
 built := bin/qaudit
 built_why := bin/qaudit-why
+built_logs := bin/qlog-to-trace
 # The program as the gate leaves it.
 program := crates/qaudit/out/qaudit
-# The program that says why, likewise.
+# The program that says why, and the converter of logs, likewise.
 program_why := crates/qaudit_why/out/qaudit_why
 # The same audit by a reader and a writer that move one byte a call, a test of it.
 program_by_one_byte := crates/one_byte/out/one_byte
 # The reader of lines by itself, a test of it.
 program_of_lines := crates/lines/out/lines
-# The converter of logs in Rattle, which is compared with that in Python.
+# The converter of logs, which is compared with the reference in Python.
 program_of_logs := crates/qlog_to_trace/out/qlog_to_trace
 # Each call over a trace, to be run with each allocation refused.
 program_without_memory := crates/without_memory/out/without_memory
@@ -35,7 +36,7 @@ tests_of_pages := test_page_in_browser test_page_opened test_page_without_browse
 in_browser := $(patsubst page/tests/%.py,tests.%,$(wildcard page/tests/test_browser_*.py))
 without_browser := $(patsubst page/tests/%.py,tests.%,$(filter-out page/tests/test_browser%,$(wildcard page/tests/test_*.py)))
 # The tests and checks that need no proof, the longest first.
-tests_in_python := $(tests_of_pages) test_qlog test_captures $(runner_tests) test_release links made_up contracts crates words wrong commands
+tests_in_python := $(tests_of_pages) test_qlog test_netlog test_captures $(runner_tests) test_release links made_up contracts crates words wrong commands
 
 # All programs in Python, by the places where their names are unlike each other.
 python := $(addprefix conformance/,allocations contracts crates cuts failing fuzz_library large library links made_up malicious memory mutations reasons recipes \
@@ -45,7 +46,9 @@ python_of_fuzz := conformance/fuzz/run
 # The pages, and what measures and tests them.
 python_of_page := page/qaudit-page page/qaudit-matrix $(wildcard page/qaudit_page/*.py)
 python_of_page_tests := page/measure page/picture $(wildcard page/*.py page/tests/*.py)
-python_of_qlog := qlog/qlog-to-trace qlog/compare qlog/dialects qlog/fuzz $(wildcard qlog/qlog_to_trace/*.py qlog/tests/*.py)
+python_of_qlog := $(addprefix conformance/qlog/,qlog-to-trace compare dialects fuzz) \
+	$(wildcard conformance/qlog/qlog_to_trace/*.py conformance/qlog/tests/*.py)
+python_of_netlog := netlog/netlog-to-qlog $(wildcard netlog/netlog_to_qlog/*.py netlog/*.py)
 # captures/transfer.py runs where aioquic is, and is checked for style alone.
 python_of_captures := captures/audit.py captures/causes.py captures/lateness captures/logs.py captures/run captures/stacks.py captures/table captures/test_causes.py captures/test_delay.py captures/test_lateness.py captures/test_upload.py examples/delay.py examples/logger.py
 python_of_release := $(addprefix release/,archive edits minutes prove unproved) $(wildcard release/*.py)
@@ -63,12 +66,12 @@ conformance := conformance-cuts conformance-failing conformance-refusals conform
 bindings := conformance-library conformance-recipes bindings-rust bindings-go bindings-python
 
 .PHONY: deb help run build quick lib one_byte lines test test_library gate conformance $(bindings) $(conformance) \
-	links made_up contracts crates words wrong commands unproved $(runner_tests) test_qlog fuzz fuzz_library test_captures test_release test_page $(tests_of_pages) pictures lint edits tried bench install dist clean
+	links made_up contracts crates words wrong commands unproved $(runner_tests) test_qlog test_netlog fuzz fuzz_library test_captures test_release test_page $(tests_of_pages) pictures lint edits tried bench install dist clean
 
 help:
 	@echo 'make run       audits $(examples)'
 	@echo '               without a proof, in about a minute'
-	@echo 'make build     proves the programs and leaves $(built) and $(built_why)'
+	@echo 'make build     proves the programs and leaves $(built), $(built_why) and $(built_logs)'
 	@echo 'make quick     runs the tests that need no proof, in a few minutes'
 	@echo 'make lib       proves and builds the library for C, $(library)'
 	@echo 'make test      runs the merge gate, and then the program over conformance/'
@@ -93,11 +96,12 @@ help:
 run:
 	@release/unproved $(examples)
 
-build: $(built_why)
+build: $(built_logs)
 
 # What the programs are made of.
 crates_of_qaudit := $(shell find crates/qa_*/src crates/qa_*/specs crates/qa_*/proofs crates/qaudit/src)
-$(built) $(built_why) &: crates.txt HANDLES $(crates_of_qaudit) $(shell find crates/qaudit_why/src)
+$(built) $(built_why) $(built_logs) &: crates.txt HANDLES $(crates_of_qaudit) \
+		$(shell find crates/qaudit_why/src crates/qlog_to_trace/src)
 	@release/prove $(PROVE_OPTIONS) bin
 
 lib: $(library_shared)
@@ -120,9 +124,10 @@ test:
 	@echo 'make test proves all crates and tries their must-fail edits, and runs the tests in Python beside that;'
 	@echo 'then it runs the programs over conformance/, and last the tests of the pages:'
 	@release/minutes --say test
-	$(MAKE) --no-print-directory -j 2 gate links made_up contracts crates words wrong commands $(runner_tests) test_qlog test_captures test_release
+	$(MAKE) --no-print-directory -j 2 gate links made_up contracts crates words wrong commands $(runner_tests) test_qlog test_netlog test_captures test_release
 	$(MAKE) --no-print-directory -j 4 --output-sync=target $(conformance)
-	QAUDIT_WHY='$(abspath $(program_why))' $(MAKE) --no-print-directory test_page
+	QAUDIT_WHY='$(abspath $(program_why))' QLOG_TO_TRACE='$(abspath $(program_of_logs))' \
+		$(MAKE) --no-print-directory test_page
 	if [ -f $(library) ]; then $(MAKE) --no-print-directory test_library; else \
 		echo '$(library) is not built, so what C is handed is not tried: `make test_library` builds it first'; fi
 
@@ -143,7 +148,7 @@ test_library: $(bindings)
 gate:
 	rt ci
 
-conformance: $(conformance) links made_up contracts crates words wrong commands $(runner_tests) test_qlog test_captures test_release
+conformance: $(conformance) links made_up contracts crates words wrong commands $(runner_tests) test_qlog test_netlog test_captures test_release
 
 conformance-cuts:
 	conformance/cuts $(program)
@@ -206,7 +211,7 @@ conformance-memory:
 
 # Both converters, over the real logs here and over some hundred that nobody would write.
 conformance-converted:
-	qlog/compare --native $(program_of_logs) --mutations 600
+	conformance/qlog/compare --native $(program_of_logs) --mutations 600
 
 # `qaudit-why` over logs, beside the converter.
 conformance-logs:
@@ -270,13 +275,17 @@ tried:
 $(runner_tests):
 	python3 conformance/$@.py
 
-# The converter of logs, over small logs and those of conformance/real, and the example of a logger.
+# The reference of the converter of logs, over small logs and those of conformance/real, and the example of a logger.
 test_qlog:
-	cd qlog && python3 -m unittest
+	cd conformance/qlog && python3 -m unittest
+
+# The qlogs of netlogs, and logs that are compressed.
+test_netlog:
+	cd netlog && python3 -m unittest
 
 # No part of `test`, for it takes five minutes; a hundred of its cases are in test_qlog.
 fuzz:
-	qlog/fuzz
+	conformance/qlog/fuzz
 
 # No part of `test` either: it takes ten minutes, and needs Debian's clang and libclang-rt-14-dev.
 fuzz_library: $(library)
@@ -294,7 +303,7 @@ test_release:
 
 # Pages: their columns, their HTML, and in a headless Chromium what a person does. It wants Debian's libjs-dygraphs, and
 # chromium-driver and python3-selenium, and says what it leaves out. QAUDIT_WHY names a program that was proved; without one
-# page/stand_in.py stands in.
+# page/stand_in.py stands in, and without QLOG_TO_TRACE the converter in Python.
 test_page:
 	cd page && python3 -m unittest
 
@@ -317,19 +326,20 @@ lint:
 	mypy $(python)
 	mypy $(python_of_fuzz)
 	mypy $(python_of_bench)
-	MYPYPATH=qlog mypy $(python_of_qlog)
+	MYPYPATH=conformance/qlog mypy $(python_of_qlog)
+	MYPYPATH=netlog:conformance/qlog mypy $(python_of_netlog)
 	mypy $(python_of_bindings)
 	MYPYPATH=release mypy $(python_of_release)
 	mypy $(python_of_captures)
-	MYPYPATH=page:qlog mypy $(python_of_page)
-	MYPYPATH=page:qlog mypy $(python_of_page_tests)
+	MYPYPATH=page:netlog mypy $(python_of_page)
+	MYPYPATH=page:netlog:conformance/qlog mypy $(python_of_page_tests)
 	MYPYPATH=conformance mypy --config-file= --strict conformance/rows
 	MYPYPATH=conformance mypy --config-file= --strict conformance/departures
 	MYPYPATH=conformance:page mypy --config-file= --strict conformance/stand_in
 	if command -v ruff > /dev/null; then ruff check; else \
 		flake8 --max-line-length 100 --extend-ignore E203,W503 \
 			--per-file-ignores '*/test_*.py:N802' $(python) $(python_of_fuzz) $(python_of_bench) \
-			$(python_of_qlog) $(python_of_release) $(python_of_captures) captures/transfer.py \
+			$(python_of_qlog) $(python_of_netlog) $(python_of_release) $(python_of_captures) captures/transfer.py \
 			$(python_of_page) $(python_of_page_tests) $(python_of_recipes) conformance/rows conformance/departures conformance/stand_in; fi
 
 # No part of `test`, for no number of seconds is right on every machine.
@@ -344,11 +354,11 @@ bench: build
 
 # A release is a folder that installs itself, so that there is one way to install.
 install: build lib
-	release/pack $(built) $(built_why) $(library) $(library_shared) bin/$(release)
+	release/pack $(built) $(built_why) $(built_logs) $(library) $(library_shared) bin/$(release)
 	bin/$(release)/install '$(DESTDIR)$(PREFIX)'
 
 dist: tried build lib
-	release/pack $(built) $(built_why) $(library) $(library_shared) bin/$(release)
+	release/pack $(built) $(built_why) $(built_logs) $(library) $(library_shared) bin/$(release)
 	release/tarball bin/$(release) dist/$(release).tar.gz
 	@echo dist/$(release).tar.gz
 

@@ -4,8 +4,12 @@ import shlex
 import subprocess
 from pathlib import Path
 
-CONVERTER = Path(__file__).parent.parent / "qlog" / "qlog-to-trace"
-KINDS = ("*.qlog", "*.sqlog", "*.netlog", "*.netlog.json")
+TOP = Path(__file__).parent.parent
+# The reference of the converter, which needs no proof.
+CONVERTER = TOP / "conformance" / "qlog" / "qlog-to-trace"
+OF_NETLOG = TOP / "netlog" / "netlog-to-qlog"
+NETLOGS = (".netlog", ".netlog.json")
+KINDS = ("*.qlog", "*.sqlog", *(f"*{it}" for it in NETLOGS))
 
 
 def paths_of(folder: Path) -> list[Path]:
@@ -20,6 +24,11 @@ def trace_of(path: Path, options: str) -> bytes | None:
     """The trace of a log, if it has one."""
     if path.suffix == ".trace":
         return path.read_bytes()
-    command = [str(CONVERTER), *shlex.split(options), str(path)]
-    converted = subprocess.run(command, capture_output=True, check=False)
+    command, log = [str(CONVERTER), *shlex.split(options)], path.read_bytes()
+    if path.name.endswith(NETLOGS):
+        made = subprocess.run([str(OF_NETLOG), path], capture_output=True, check=False)
+        if made.returncode:
+            return None
+        log = made.stdout
+    converted = subprocess.run(command, input=log, capture_output=True, check=False)
     return converted.stdout if converted.returncode == 0 else None

@@ -12,7 +12,7 @@ from pathlib import Path
 
 TOP = Path(__file__).resolve().parent.parent
 PAGE = Path("docs/proofs.md")
-BEGIN = "<!-- qlog/fuzz and conformance/fuzz_library put what follows here -->\n"
+BEGIN = "<!-- conformance/qlog/fuzz and conformance/fuzz_library put what follows here -->\n"
 END = "<!-- up to here -->\n"
 HEAD = """
 | Program | Cases | Minutes | Processes | Seeds | Findings | Date | Commit |

@@ -122,7 +122,7 @@ def programs(qaudit: str, why: str, folder: Path) -> list[Program]:
             takes_several=True,
         ),
         Program(
-            *("qlog-to-trace", [python, str(TOP / "qlog" / "qlog-to-trace")], LOG_NAME),
+            *("qlog-to-trace", [python, str(FOLDER / "qlog" / "qlog-to-trace")], LOG_NAME),
             *(unwritten, missing, (2, f"/dev/zero: {NO_LOG}")),
         ),
     ]

@@ -44,7 +44,7 @@ def commands(folder: Path) -> Iterator[tuple[str, list[str]]]:
     options = ["--program", WHY, "--dygraphs", str(folder / "dygraphs.js")]
     for name in PYTHON[:2]:
         yield name, [sys.executable, str(TOP / "page" / name), *options]
-    yield PYTHON[2], [sys.executable, str(TOP / "qlog" / PYTHON[2])]
+    yield PYTHON[2], [sys.executable, str(FOLDER / "qlog" / PYTHON[2])]
     if "QAUDIT" in os.environ:
         for word in ("check", "explain"):
             yield "qaudit", [os.environ["QAUDIT"], word]

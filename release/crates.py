@@ -9,7 +9,7 @@ from pathlib import Path
 TOP = Path(__file__).resolve().parent.parent
 LIST = "crates.txt"
 # What `make build` proves.
-PROGRAMS = ("qaudit", "qaudit_why")
+PROGRAMS = ("qaudit", "qaudit_why", "qlog_to_trace")
 # Measured by `prove --write-seconds`.
 SECONDS = Path("release/seconds.json")
 # What a crate needs of its folder to be proved, built and run.

@@ -6,6 +6,7 @@ Each test has a small repository in a temporary folder, or programs that are no 
 a stand-in for `rt`.
 """
 
+import gzip
 import hashlib
 import json
 import os
@@ -71,6 +72,13 @@ import sys
 print(*sys.argv[1:])
 print({last!r}, file=sys.stderr)
 sys.exit({status})
+"""
+# A converter that is the reference.
+CONVERTER = f"""\
+import sys
+sys.path.insert(0, {str(HERE.parent / "conformance" / "qlog")!r})
+from qlog_to_trace.command import program
+program()
 """
 PAGE = """\
 Before.
@@ -223,15 +231,19 @@ class Releases(unittest.TestCase):
         made.mkdir()
         source = self.top / "main.c"
         source.write_text("int main(void) { return 0; }\n")
-        self.programs = [made / name for name in ("qaudit", "qaudit-why", "lib.a", "lib.so")]
-        program, why, library, shared = self.programs
+        names = ("qaudit", "qaudit-why", "qlog-to-trace", "lib.a", "lib.so")
+        self.programs = [made / name for name in names]
+        program, why, converter, library, shared = self.programs
         subprocess.run(["cc", "-o", program, source], check=True)
         shutil.copy(program, why)
+        # The reference stands in for the converter.
+        write_program(converter, CONVERTER)
         subprocess.run(["cc", "-c", "-o", self.top / "main.o", source], check=True)
         subprocess.run(["ar", "rcsD", library, self.top / "main.o"], check=True)
         subprocess.run(["cc", "-shared", "-fPIC", "-o", shared, source], check=True)
-        digest = hashlib.sha256(program.read_bytes()).hexdigest()
-        (made / "PROVED").write_text(f"kit: a kit\nqaudit: sha256 {digest}\n")
+        digests = [hashlib.sha256(it.read_bytes()).hexdigest() for it in (program, converter)]
+        lines = f"kit: a kit\nqaudit: sha256 {digests[0]}\nqlog-to-trace: sha256 {digests[1]}\n"
+        (made / "PROVED").write_text(lines)
 
     def run_words(self, *words: object, umask: int = 0o022, **names: str) -> Any:
         """How a command of the repository ends."""
@@ -279,19 +291,25 @@ class Releases(unittest.TestCase):
         self.assertTrue(told.startswith("kit: a kit\nqaudit: sha256 "))
         subprocess.run([there / "install", to], check=True)
         version = (HERE.parent / "VERSION").read_text().strip()
-        for name in ("qaudit-page", "qaudit-matrix", "qlog-to-trace"):
+        for name in ("qaudit-page", "qaudit-matrix", "netlog-to-qlog"):
             command = [str(to / "bin" / name), "--version"]
             ended = subprocess.run(command, capture_output=True, text=True, check=True)
             self.assertEqual(ended.stdout, f"{name} {version}\n")
-        log = HERE.parent / "conformance/real/traces/ngtcp2-past-window.qlog"
-        command = [str(to / "bin/qlog-to-trace"), str(log)]
-        ended = subprocess.run(command, capture_output=True, text=True, check=True)
-        self.assertTrue(ended.stdout.startswith('{"event":"header"'))
-        # The pages have the converter with them.
+        self.assertEqual((to / "bin/qlog-to-trace").read_bytes(), self.programs[2].read_bytes())
+        for name in ("qlog-to-trace", "netlog-to-qlog"):
+            for place in (f"man/man1/{name}.1", f"bash-completion/completions/{name}"):
+                self.assertTrue((to / "share" / place).exists(), place)
+        # The pages find the converter beside them, and read netlogs and what is compressed.
+        real = HERE.parent / "conformance/real/traces"
+        packed = self.top / "packed.qlog.gz"
+        packed.write_bytes(gzip.compress((real / "ngtcp2-past-window.qlog").read_bytes()))
         program = HERE.parent / "page/stand_in.py"
-        command = [str(to / "bin/qaudit-matrix"), "--program", str(program), str(log)]
-        ended = subprocess.run(command, capture_output=True, text=True, check=True, cwd=to)
-        self.assertIn("accepted with allowances", ended.stdout)
+        command = [str(to / "bin/qaudit-matrix"), "--program", str(program), str(packed)]
+        command += [str(real / "chromium-156-loss.netlog"), "--json", str(self.top / "said")]
+        ended = subprocess.run(command, capture_output=True, text=True, check=False, cwd=to)
+        self.assertEqual((ended.returncode, ended.stderr), (0, ""))
+        said = json.loads((self.top / "said").read_text())["traces"]
+        self.assertEqual([it["with_allowances"] for it in said], [True, True])
         self.assertTrue((there / "ci/audit").exists())
         self.assertTrue((to / "share/doc/qaudit/PROVED").exists())
 
@@ -334,11 +352,14 @@ class Releases(unittest.TestCase):
             self.assertEqual(set(named), {version}, name)
 
     def test_what_was_not_proved_is_not_packed(self) -> None:
-        self.programs[1].write_text("another")
-        ended = self.run_words("release/pack", *self.programs, self.top / "folder")
-        self.assertEqual(ended.returncode, 1)
-        self.assertIn("does not say that", ended.stderr)
-        self.assertFalse((self.top / "folder").exists())
+        for program in self.programs[:3]:
+            before = program.read_bytes()
+            program.write_text("another")
+            ended = self.run_words("release/pack", *self.programs, self.top / "folder")
+            self.assertEqual(ended.returncode, 1)
+            self.assertIn(f"does not say that {program} was proved", ended.stderr)
+            self.assertFalse((self.top / "folder").exists())
+            program.write_bytes(before)
 
     @unittest.skipUnless(shutil.which("dpkg-deb"), "there is no dpkg-deb")
     def test_a_debian_package(self) -> None:
@@ -351,8 +372,10 @@ class Releases(unittest.TestCase):
             packages.append(file.read_bytes())
         self.assertEqual(packages[0], packages[1])
         self.run_words("dpkg-deb", "--extract", self.top / "one.deb", self.top / "root")
-        ended = self.run_words(self.top / "root/usr/bin/qlog-to-trace", "--version")
-        self.assertTrue(ended.stdout.startswith("qlog-to-trace "), ended.stderr)
+        ended = self.run_words(self.top / "root/usr/bin/netlog-to-qlog", "--version")
+        self.assertTrue(ended.stdout.startswith("netlog-to-qlog "), ended.stderr)
+        first = (self.top / "root/usr/bin/netlog-to-qlog").read_bytes().partition(b"\n")[0]
+        self.assertEqual(first.rstrip(), b"#!/usr/bin/python3")
 
     @unittest.skipUnless(shutil.which("lintian"), "there is no lintian")
     def test_lintian_has_no_errors(self) -> None:
@@ -453,7 +476,7 @@ class Unproved(Repository):
 
     def setUp(self) -> None:
         super().setUp()
-        self.write("crates.txt", "qaudit: low\nqaudit_why: low\nlow: \n")
+        self.write("crates.txt", "qaudit: low\nqaudit_why: low\nqlog_to_trace: low\nlow: \n")
         self.write("crates/qaudit/src/lib.rt", "text\n")
         self.write("one.trace", "text\n")
 

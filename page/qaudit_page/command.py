@@ -7,9 +7,10 @@ import sys
 from pathlib import Path
 from typing import IO, NoReturn
 
+from .converter import NAME as CONVERTER
+from .converter import Asked, check, options_of
 from .failure import Failure, Status
 from .files import STANDARD_INPUT, STDIN, write
-from .logs import CONVERTER, options_of
 from .page import Wanted, page_of
 from .pair import page_of_two
 from .streams import ended
@@ -20,7 +21,7 @@ DESCRIPTION = """\
 Makes a page of a trace or of a log: one HTML file with the verdict of qaudit and diagrams of the
 run. It opens in any browser, without a server or a network. Two of them come onto one time axis:
 the client and the server of a connection, or two runs of one stack. A qlog, or a netlog of
-Chromium, is converted as qlog-to-trace does it."""
+Chromium, is converted by qlog-to-trace."""
 # So many traces a page has at most.
 MOST_TRACES = 2
 ENDING = """\
@@ -54,10 +55,9 @@ def line(text: str) -> int:
 def add_shared(parser: argparse.ArgumentParser) -> None:
     """The options that both commands have."""
     text = f"options of {CONVERTER} for each log, as in --convert='--connection 2'"
-    default = options_of()
-    parser.add_argument(
-        "--convert", type=options_of, default=default, metavar="OPTIONS", help=text
-    )
+    parser.add_argument("--convert", type=options_of, default=(), metavar="OPTIONS", help=text)
+    text = f"path to {CONVERTER} (default: the one on the path, or next to this command)"
+    parser.add_argument("--converter", type=Path, metavar="FILE", help=text)
     text = "path to dygraphs 2.2 (default: the one from Debian's libjs-dygraphs)"
     parser.add_argument("--dygraphs", type=Path, metavar="FILE", help=text)
     text = "path to qaudit-why (default: the one on the path, or next to this command)"
@@ -92,6 +92,7 @@ def arguments() -> argparse.Namespace:
 
 def text_of(given: argparse.Namespace) -> str:
     """The page of one trace, or of two."""
+    check(Asked(given.converter, given.convert))
     trace, *more = given.traces or [None]
     wanted = Wanted(
         trace,
@@ -100,7 +101,7 @@ def text_of(given: argparse.Namespace) -> str:
         given.title,
         given.first,
         given.last,
-        convert=given.convert,
+        asked=Asked(given.converter, given.convert, is_shown=True),
     )
     return page_of_two(wanted, (trace, more[0])) if more else page_of(wanted).text
 

@@ -7,9 +7,9 @@ from collections.abc import Iterator
 from pathlib import Path
 from typing import IO, BinaryIO, cast
 
-from .converter import NoProgram, Unusable, unpacked
 from .failure import Failure, Status
 from .streams import put
+from .unpacking import NoProgram, Unusable, unpacked
 
 MAX_INPUT = 2**30
 # Of what a page shows, whose lines are all in memory.

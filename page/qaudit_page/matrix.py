@@ -1,6 +1,5 @@
 """A table of many traces: a row for each case, a column for each stack, and what is new."""
 
-import argparse
 import json
 import os
 import re
@@ -12,11 +11,12 @@ from urllib.parse import quote
 
 from .banner import AMBER, MARKS
 from .conversion import FIRST_LINES, notes_of, object_of
+from .converter import Asked, NoTraceError
 from .failure import Failure
 from .files import as_text, read, write
 from .grounds import Basis, Ground, basis_of
 from .library import resource
-from .logs import Asked, NoTraceError, Taken, options_of, taken
+from .logs import Taken, taken
 from .page import Wanted, audited, page_of
 from .places import Place, places_of
 from .program import Verdict, find, verdict_of, whole_verdict_of
@@ -119,7 +119,7 @@ class Job:
     # Whether every violation is wanted, and not only the first.
     is_whole: bool = False
     # How a log is converted.
-    convert: argparse.Namespace = field(default_factory=options_of)
+    asked: Asked = Asked()
 
 
 def judged(job: Job) -> Result:
@@ -167,7 +167,7 @@ class Found:
 
 def looked_at(job: Job) -> Found:
     """What a trace comes to of which no page is wanted."""
-    program, given = find(job.program), taken(job.trace, Asked(job.convert))
+    program, given = find(job.program), taken(job.trace, job.asked)
     data = given.data
     verdict = (whole_verdict_of if job.is_whole else verdict_of)(program, data)
     lines = data.split(b"\n", FIRST_LINES)
@@ -184,9 +184,8 @@ def looked_at(job: Job) -> Found:
 def shown_on(job: Job, page: Path) -> Found:
     """What a trace comes to whose page is written."""
     # Other traces have the other processors.
-    wanted = Wanted(
-        job.trace, job.program, job.dygraphs, job.key, readers=0, convert=job.convert
-    )
+    asked = job.asked._replace(is_shown=True)
+    wanted = Wanted(job.trace, job.program, job.dygraphs, job.key, readers=0, asked=asked)
     made = page_of(wanted)
     write(page, made.text)
     return Found(made.verdict, made.basis, made.notes, made.taken)

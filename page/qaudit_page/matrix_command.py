@@ -13,6 +13,7 @@ from typing import NoReturn
 from . import logs
 from .ci import Listed, annotations, junit, sarif
 from .command import Parser, add_shared, interrupted
+from .converter import Asked, check
 from .failure import Failure, Status
 from .files import as_text, reason_of, write
 from .history import Night, history, runs_in
@@ -44,7 +45,7 @@ DESCRIPTION = """\
 Audits many traces and logs, and writes an HTML table of their verdicts to standard output. In a
 directory it finds each file, at any depth, that ends in .trace, .qlog, .sqlog, .netlog or
 .netlog.json, and with .gz, .xz or .zst after that. A log beside its own trace (x.sqlog and x.trace)
-is left out: the trace counts. Logs are converted as qlog-to-trace does it."""
+is left out: the trace counts. Logs are converted by qlog-to-trace."""
 ENDING = """\
 The exit status is 0 if all are accepted, 1 if one is refused, 2 if one cannot be read, 3 if a file
 or a program is missing or failed, and 64 if the arguments are wrong. With --against it is 0 if
@@ -136,7 +137,8 @@ def jobs_of(given: argparse.Namespace, search: Search) -> list[Job]:
             pages[plain] += 1
             again = "" if pages[plain] == 1 else f"-{pages[plain]}"
             page = given.pages / f"{plain}{again}.html"
-        job = Job(trace, key, page, given.program, given.dygraphs, is_whole(given), given.convert)
+        asked = Asked(given.converter, given.convert)
+        job = Job(trace, key, page, given.program, given.dygraphs, is_whole(given), asked)
         jobs.append(job)
     return jobs
 
@@ -164,6 +166,7 @@ def all_judged(jobs: list[Job]) -> list[Result]:
 def results_of(given: argparse.Namespace) -> list[Result]:
     """What became of each trace."""
     find(given.program)
+    check(Asked(given.converter, given.convert))
     if given.pages:
         dygraphs(given.dygraphs)
         try:

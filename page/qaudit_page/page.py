@@ -1,14 +1,13 @@
 """A page of a trace: one HTML file with its script, its style and its data."""
 
-import argparse
 import json
-import sys
-from dataclasses import dataclass, field
+from dataclasses import dataclass
 from pathlib import Path
 
 from .banner import MARKS, banner, kind_of, title_of
 from .collector import without_collector
 from .conversion import notes_of, said_of_log
+from .converter import Asked
 from .departures import section_of
 from .facts import Facts, facts_of
 from .failure import Failure
@@ -16,7 +15,7 @@ from .files import name_of
 from .grounds import Basis, basis_of
 from .held import held_after
 from .library import dygraphs, licence, resource, script
-from .logs import Asked, Taken, options_of, taken
+from .logs import Taken, taken
 from .payload import Part, json_of, packed, packed_of, part_of, payload, shown, text_of
 from .places import place_of
 from .program import (
@@ -56,7 +55,7 @@ class Wanted:
     # How many processes read rows beside this one.
     readers: int = 2
     # How a log is converted.
-    convert: argparse.Namespace = field(default_factory=options_of)
+    asked: Asked = Asked(is_shown=True)
 
     @property
     def name(self) -> str:
@@ -65,9 +64,7 @@ class Wanted:
 
     def taken(self) -> Taken:
         """The trace, which is made of a log if the file is one."""
-        # Processes that have others beside them leave the terminal to these.
-        terminal = sys.stderr if self.readers else None
-        return taken(self.trace, Asked(self.convert, is_shown=True, terminal=terminal))
+        return taken(self.trace, self.asked)
 
 
 @dataclass(frozen=True)

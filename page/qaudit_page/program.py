@@ -6,10 +6,10 @@ import shutil
 import subprocess
 import sys
 import tempfile
-from collections.abc import Iterator
+from collections.abc import Iterator, Sequence
 from dataclasses import dataclass
 from pathlib import Path
-from typing import IO, Any, NamedTuple
+from typing import IO, Any, NamedTuple, Self
 
 from .failure import Failure
 
@@ -87,43 +87,39 @@ class Verdict:
         return f"{self.kind} line {self.line} {self.rule} {self.name}"
 
 
-def find(given: Path | None) -> str:
-    """The path of the program: the one that is given, or on the path, or beside this command."""
+def find(given: Path | None, name: str = NAME, option: str = "--program") -> str:
+    """The path of a program: the one that is given, or on the path, or beside this command."""
     if given is not None:
         found = shutil.which(str(given.absolute()))
     else:
-        beside = Path(sys.argv[0]).resolve().parent / NAME
-        found = shutil.which(NAME) or shutil.which(str(beside))
+        beside = Path(sys.argv[0]).resolve().parent / name
+        found = shutil.which(name) or shutil.which(str(beside))
     if found is None:
-        raise Failure(f"there is no program {given or NAME}; --program names one")
+        raise Failure(f"there is no program {given or name}; {option} names one")
     return found
 
 
-class Run:
-    """A run of the program over the bytes of a trace, which it has on standard input."""
+class Running:
+    """A program whose output is read. If that ends before its time, so does the program."""
 
-    def __init__(self, program: str, options: tuple[str, ...], data: bytes) -> None:
-        self.program, self.options = program, " ".join(options)
-        self.errors: IO[bytes] = tempfile.TemporaryFile()
-        with tempfile.TemporaryFile() as file:
-            file.write(data)
-            file.seek(0)
-            try:
-                self.process = subprocess.Popen(
-                    [program, *options, "-"],
-                    stdin=file,
-                    stdout=subprocess.PIPE,
-                    stderr=self.errors,
-                )
-            except OSError as fault:
-                raise Failure(f"cannot run {program}: {fault.strerror}") from fault
+    def __init__(
+        self, words: Sequence[str], stdin: IO[bytes] | int, passed: tuple[int, ...] = ()
+    ) -> None:
+        self.program = words[0]
+        self._errors: IO[bytes] = tempfile.TemporaryFile()
+        try:
+            self.process = subprocess.Popen(
+                words, stdin=stdin, stdout=subprocess.PIPE, stderr=self._errors, pass_fds=passed
+            )
+        except OSError as fault:
+            raise Failure(f"cannot run {self.program}: {fault.strerror}") from fault
 
-    def __enter__(self) -> "Run":
+    def __enter__(self) -> Self:
         return self
 
     def __exit__(self, *_: object) -> None:
         self.output.close()
-        self.errors.close()
+        self._errors.close()
         if self.process.poll() is None:
             self.process.kill()
         self.process.wait()
@@ -134,6 +130,27 @@ class Run:
         if self.process.stdout is None:
             raise ValueError("standard output is not captured")
         return self.process.stdout
+
+    def told(self, most: int = SHOWN) -> str:
+        """The beginning of what it wrote on standard error, once it has ended."""
+        self._errors.seek(0)
+        return self._errors.read(most).decode("utf-8", "backslashreplace").strip()
+
+
+def ending_of(status: int) -> str:
+    """How a process ended that ended as it should not."""
+    return f"ended with status {status}" if status > 0 else f"was killed by {-status}"
+
+
+class Run(Running):
+    """A run of qaudit-why over the bytes of a trace, which it has on standard input."""
+
+    def __init__(self, program: str, options: tuple[str, ...], data: bytes) -> None:
+        self.options = " ".join(options)
+        with tempfile.TemporaryFile() as file:
+            file.write(data)
+            file.seek(0)
+            super().__init__([program, *options, "-"], file)
 
     def pieces(self) -> Iterator[bytes]:
         """What it writes, some whole lines at a time, and that it ended with a verdict."""
@@ -157,10 +174,8 @@ class Run:
             text = f"{self.program} has no {self.options}: a newer {NAME} is needed"
             raise UnknownOptionError(text)
         if status not in range(len(VERDICTS)):
-            self.errors.seek(0)
-            told = self.errors.read(SHOWN).decode("utf-8", "backslashreplace").strip()
-            ending = f"ended with status {status}" if status > 0 else f"was killed by {-status}"
-            raise Failure(f"{self.program} {self.options} {ending}: {told}")
+            told = f"{self.options} {ending_of(status)}: {self.told()}"
+            raise Failure(f"{self.program} {told}")
 
 
 def verdict_by(run: Run) -> Verdict:

@@ -17,7 +17,11 @@ TRACES = PROJECT / "conformance" / "traces"
 STAND_IN = PAGE / "stand_in.py"
 # The program that the commands run in tests: one that was proved where the environment names it.
 PROGRAM = Path(os.environ.get("QAUDIT_WHY", STAND_IN)).resolve()
-sys.path.append(str(PROJECT / "conformance"))
+# The converter of logs, likewise; without one the reference in Python converts them.
+REFERENCE = PROJECT / "conformance" / "qlog"
+CONVERTER = Path(os.environ.get("QLOG_TO_TRACE", REFERENCE / "qlog-to-trace")).resolve()
+PROGRAMS = ("--program", str(PROGRAM), "--converter", str(CONVERTER))
+sys.path += [str(PROJECT / "conformance"), str(REFERENCE)]
 
 import departure_objects  # noqa: E402
 from departures import course_of  # noqa: E402

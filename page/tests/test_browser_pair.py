@@ -3,12 +3,13 @@
 import unittest
 from typing import Any
 
-from tests.made import HEADER, joined, made_of_two, sent
+from tests.made import CONVERTER, HEADER, joined, made_of_two, sent
 from tests.test_browser import EVIL, SMALL, Browsing
 from tests.test_logs import REAL
 from tests.test_pair import CLIENT, heard, initial
 
-from qaudit_page.logs import Asked, options_of, taken
+from qaudit_page.converter import Asked
+from qaudit_page.logs import taken
 from qaudit_page.places import place_of
 
 # In the clock of the client, packet n of the client is sent at 100 n ms; the clock of the server is
@@ -220,7 +221,7 @@ class Logs(Browsing):
 
     def test_where_in_the_log_a_line_is_from(self) -> None:
         client, server = (
-            taken(REAL / f"ngtcp2-upload-{side}.qlog", Asked(options_of())).data
+            taken(REAL / f"ngtcp2-upload-{side}.qlog", Asked(CONVERTER)).data
             for side in ("client", "server")
         )
         self.show(made_of_two(client, server), "#second=20")

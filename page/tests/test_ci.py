@@ -13,7 +13,7 @@ from pathlib import Path
 from typing import Any
 from xml.etree import ElementTree
 
-from tests.made import HEADER, PAGE, PROGRAM, PROJECT, TRACES, joined, sent
+from tests.made import CONVERTER, HEADER, PAGE, PROGRAM, PROJECT, TRACES, joined, sent
 
 from qaudit_page.ci import annotation, uri
 from qaudit_page.known import Compared, Known, Seen, compared
@@ -313,7 +313,7 @@ class Recipes(unittest.TestCase):
         for name, program in (
             ("qaudit-why", PROGRAM),
             ("qaudit-matrix", COMMAND),
-            ("qlog-to-trace", PROJECT / "qlog" / "qlog-to-trace"),
+            ("qlog-to-trace", CONVERTER),
         ):
             (self.bin / name).symlink_to(program)
         real = PROJECT / "conformance" / "real" / "traces"

@@ -290,7 +290,7 @@ class Versions(unittest.TestCase):
         """As release/pack makes it."""
         folder = Path(self.enterContext(tempfile.TemporaryDirectory()))
         shutil.copytree(PAGE / "qaudit_page", folder / "modules" / "qaudit_page")
-        shutil.copytree(PROJECT / "qlog/qlog_to_trace", folder / "modules" / "qlog_to_trace")
+        shutil.copytree(PROJECT / "netlog/netlog_to_qlog", folder / "modules/netlog_to_qlog")
         (folder / "modules" / "qaudit_page" / "VERSION").write_text("1.2.3\n")
         target = folder / "qaudit-page"
         zipapp.create_archive(folder / "modules", target, main="qaudit_page.command:program")

@@ -1,26 +1,40 @@
 """Logs in place of traces: what a file is, how it is converted, and where in it a line is from."""
 
 import argparse
-import contextlib
 import gzip
-import io
 import json
 import lzma
 import os
 import shutil
+import signal
 import subprocess
 import sys
 import threading
+import time
 import unittest
 import zipapp
 from pathlib import Path
 from typing import Any
+from unittest import mock
 
-from tests.made import HEADER, NO_LIBRARY, PAGE, PROGRAM, PROJECT, InFolder, Page, joined, sent
+from tests.made import (
+    CONVERTER,
+    HEADER,
+    NO_LIBRARY,
+    PAGE,
+    PROGRAM,
+    PROGRAMS,
+    PROJECT,
+    InFolder,
+    Page,
+    joined,
+    sent,
+)
 from tests.test_input import NO_ZSTD, zstd
 
-from qaudit_page import logs
+from qaudit_page import converter, logs
 from qaudit_page.alignment import End, alignment_of
+from qaudit_page.converter import Asked, NoTraceError, check, options_of
 from qaudit_page.failure import Failure, Status
 from qaudit_page.lenient import SPACES
 from qaudit_page.page import audited
@@ -140,20 +154,38 @@ class Options(unittest.TestCase):
     """Options of the converter, in a word."""
 
     def test_they_are_handed_on(self) -> None:
-        found = logs.options_of("--connection 2 --dialect 'ngtcp2'")
-        self.assertEqual((found.connection, found.dialect, found.places), (2, "ngtcp2", True))
-        self.assertEqual(logs.options_of().connection, None)
+        words = ("--dialect", "quic-go", "--notes")
+        self.assertEqual(options_of("--dialect 'quic-go' --notes"), words)
+        self.assertEqual(options_of(), ())
+        for text in ("", "--connection 2 --dialect 'ngtcp2'", "--places", "--notes"):
+            check(Asked(CONVERTER, options_of(text)))
 
     def test_wrong_ones(self) -> None:
-        for text in ("client.qlog", "'", "--packet-threshold 2", "--format 1 --window reported"):
+        for text in ("'", '--dialect "'):
             with self.assertRaises(argparse.ArgumentTypeError, msg=text):
-                logs.options_of(text)
-        for text in ("--nothing", "--connection"):
-            with contextlib.redirect_stderr(io.StringIO()) as errors:
-                with self.assertRaises(SystemExit) as raised:
-                    logs.options_of(text)
-            self.assertEqual(raised.exception.code, Status.USAGE)
-            self.assertIn("qlog-to-trace: ", errors.getvalue())
+                options_of(text)
+        for text, status in (
+            ("client.qlog", Status.USAGE),
+            ("--packet-threshold 2", Status.USAGE),
+            ("--format 1 --window reported", Status.USAGE),
+            ("--nothing", Status.USAGE),
+            ("--connection", Status.USAGE),
+            ("--version", Status.USAGE),
+            ("--help", Status.USAGE),
+        ):
+            with self.subTest(text), self.assertRaises(Failure) as raised:
+                check(Asked(CONVERTER, options_of(text)))
+            self.assertEqual(raised.exception.status, status)
+            said = str(raised.exception)
+            self.assertTrue(said.startswith(f"qlog-to-trace {text}: "), said)
+            self.assertTrue(said.isprintable(), said)
+
+    def test_a_converter_that_is_none(self) -> None:
+        for program, why in (("/nowhere", "there is no program"), ("/bin/false", "with status 1")):
+            with self.assertRaises(Failure) as raised:
+                check(Asked(Path(program), ("--notes",)))
+            self.assertEqual(raised.exception.status, Status.FAULT)
+            self.assertIn(why, str(raised.exception))
 
 
 class Places(unittest.TestCase):
@@ -188,20 +220,76 @@ class Taken(InFolder):
     def taken(self, data: bytes, words: str = "", *, is_shown: bool = False) -> logs.Taken:
         """What is taken of a file."""
         path = self.file("given", data)
-        return logs.taken(path, logs.Asked(logs.options_of(words), is_shown=is_shown))
+        return logs.taken(path, Asked(CONVERTER, options_of(words), is_shown=is_shown))
 
     def test_a_trace_is_taken_as_it_is(self) -> None:
         for data in (TRACE, b"", b"{", b"\n" * 9):
             self.assertEqual(self.taken(data), logs.Taken(data))
 
     def test_a_log_as_the_converter_does_it(self) -> None:
-        for path in (LOG, NETLOG):
-            command = [sys.executable, PROJECT / "qlog" / "qlog-to-trace", "--places", path]
-            ended = subprocess.run(list(map(str, command)), capture_output=True, check=True)
-            found = self.taken(path.read_bytes())
-            self.assertEqual((found.data, found.is_log), (ended.stdout, True))
-            told = "".join(f"qlog-to-trace: {path}: {it}\n" for it in found.lacks + found.told)
-            self.assertEqual(told.encode(), ended.stderr)
+        ended = subprocess.run([CONVERTER, "--places", LOG], capture_output=True, check=True)
+        found = self.taken(LOG.read_bytes())
+        self.assertEqual((found.data, found.is_log), (ended.stdout, True))
+        told = "".join(f"qlog-to-trace: {LOG}: {it}\n" for it in found.lacks + found.told)
+        self.assertEqual(told.encode(), ended.stderr)
+
+    def test_a_netlog(self) -> None:
+        """It gives the trace of its qlog, with the places of the netlog."""
+        program = PROJECT / "netlog" / "netlog-to-qlog"
+        qlog = subprocess.run([program, NETLOG], capture_output=True, check=True).stdout
+        wanted = subprocess.run([CONVERTER], input=qlog, capture_output=True, check=True).stdout
+        found = self.taken(NETLOG.read_bytes())
+        lines = [json.loads(it) for it in found.data.splitlines()]
+        places = [line.pop("x_place", None) for line in lines]
+        self.assertEqual(lines, list(map(json.loads, wanted.splitlines())))
+        data = NETLOG.read_bytes()
+        said = json.loads(data)
+        names = {it: name for name, it in said["constants"]["logEventTypes"].items()}
+        sent = 0
+        for line, place in zip(lines[1:], places[1:], strict=True):
+            self.assertRegex(place, r"^(guessed at )?byte [0-9]+( to byte [0-9]+)?$")
+            if line["event"] == "sent":
+                at = data[int(place.removeprefix("byte ")) :].decode()
+                event = json.JSONDecoder().raw_decode(at)[0]
+                self.assertEqual(names[event["type"]], "QUIC_SESSION_PACKET_SENT")
+                self.assertEqual(int(event["params"]["packet_number"]), line["number"])
+                sent += 1
+        self.assertGreater(sent, 10)
+
+    def test_what_of_a_netlog_is_not_in_it(self) -> None:
+        data = NETLOG.read_bytes()
+        at = data.rindex(b'{"params"')
+        wanted = f"torn off at byte {at}; the trace ends there"
+        self.assertEqual(self.taken(data[: at + 30]).lacks, (wanted,))
+        with self.assertRaises(NoTraceError) as raised:
+            self.taken(b'{"constants":{"logEventTypes":{}},"events":[]}')
+        self.assertIn("a netlog without packets of QUIC", raised.exception.reason)
+
+    def test_one_converter_for_a_log(self) -> None:
+        """It is started once, and ends when nobody wants more of it."""
+        path, count = self.folder / "converter", self.folder / "count"
+        path.write_text(f'#!/bin/sh\necho $$ >> {count}\nwhile echo "{{}}"; do :; done\n')
+        path.chmod(0o755)
+        with mock.patch.object(converter, "MAX_INPUT", 5_000_000), self.assertRaises(Failure):
+            logs.taken(self.file("given", GOOD), Asked(path))
+        (number,) = count.read_text().split()
+        self.assertFalse(Path(f"/proc/{number}").exists())
+
+    def test_a_converter_that_fails(self) -> None:
+        path = self.folder / "converter"
+        for body, why in (
+            ("echo 'qlog-to-trace: /dev/fd/0: x' >&2; exit 3", "ended with status 3: "),
+            ('for it; do :; done; echo "qlog-to-trace: $it: full" >&2; exit 3', "status 3: full"),
+            ("echo a >&2; exit 2", "ended with status 2: a"),
+            ("kill -9 $$", "was killed by 9"),
+            ("exit 64", "ended with status 64"),
+        ):
+            path.write_text(f"#!/bin/sh\n{body}\n")
+            path.chmod(0o755)
+            with self.subTest(body), self.assertRaises(Failure) as raised:
+                logs.taken(self.file("given", GOOD), Asked(path))
+            self.assertEqual(raised.exception.status, Status.FAULT)
+            self.assertIn(why, str(raised.exception))
 
     def test_compressed(self) -> None:
         wanted = self.taken(GOOD)
@@ -234,7 +322,7 @@ class Taken(InFolder):
             (b"PK\x03\x04", "a zip archive: unpack it first"),
             (b'\x1e{"a":"\x1b[31m', "line 1: "),
         ):
-            with self.assertRaises(logs.NoTraceError) as raised:
+            with self.assertRaises(NoTraceError) as raised:
                 self.taken(data)
             self.assertTrue(raised.exception.reason.startswith(reason), raised.exception.reason)
             self.assertEqual(raised.exception.status, Status.UNSHOWN)
@@ -242,13 +330,13 @@ class Taken(InFolder):
 
     def test_a_trace_that_is_too_long(self) -> None:
         for name, is_shown in (("MAX_LINES", True), ("MAX_SHOWN", True), ("MAX_INPUT", False)):
-            before = getattr(logs, name)
-            setattr(logs, name, 3)
-            self.addCleanup(setattr, logs, name, before)
+            before = getattr(converter, name)
+            setattr(converter, name, 3)
+            self.addCleanup(setattr, converter, name, before)
             with self.assertRaises(Failure) as raised:
                 self.taken(GOOD, is_shown=is_shown)
             self.assertIn("gives a trace of more ", str(raised.exception))
-            setattr(logs, name, before)
+            setattr(converter, name, before)
 
 
 @unittest.skipIf(NO_LIBRARY, NO_LIBRARY)
@@ -257,7 +345,7 @@ class Pages(InFolder):
 
     def ended(self, *words: object, data: bytes = b"", command: Path = PAGE / "qaudit-page") -> Any:
         """How the command ends."""
-        arguments = [sys.executable, str(command), "--program", str(PROGRAM), *map(str, words)]
+        arguments = [sys.executable, str(command), *PROGRAMS, *map(str, words)]
         return subprocess.run(arguments, input=data, capture_output=True, timeout=60, check=False)
 
     def page(self, *words: object, **more: Any) -> Page:
@@ -277,7 +365,7 @@ class Pages(InFolder):
         # By a pipe, by standard input and by a FIFO.
         self.assertEqual(self.page(data=BAD).lines(), page.lines())
         with bad.open("rb") as file:
-            words = [sys.executable, PAGE / "qaudit-page", "--program", PROGRAM]
+            words = [sys.executable, PAGE / "qaudit-page", *PROGRAMS]
             ended = subprocess.run(
                 list(map(str, words)), stdin=file, capture_output=True, check=True
             )
@@ -322,15 +410,35 @@ class Pages(InFolder):
             self.assertIn("Unreadable at", page.by_id["p"])
 
     def test_wrong_options(self) -> None:
-        for words, told in (("--nothing", "qlog-to-trace: "), ("x.qlog", "is no option of")):
+        for words in ("--nothing", "x.qlog"):
             ended = self.ended(f"--convert={words}", LOG)
             self.assertEqual((ended.returncode, ended.stdout), (64, b""))
-            self.assertIn(told, ended.stderr.decode())
+            told = f"qaudit-page: qlog-to-trace {words}: "
+            self.assertTrue(ended.stderr.decode().startswith(told), ended.stderr)
+            self.assertEqual(ended.stderr.count(b"\n"), 1)
+
+    def test_an_interrupt_ends_the_converter_too(self) -> None:
+        converter, number = self.folder / "converter", self.folder / "number"
+        body = f"echo $$ > {number}.new; mv {number}.new {number}; exec sleep 60"
+        converter.write_text(f"#!/bin/sh\n{body}\n")
+        converter.chmod(0o755)
+        words = ["--program", PROGRAM, "--converter", converter, self.file("a.qlog", GOOD)]
+        with subprocess.Popen(
+            [sys.executable, str(PAGE / "qaudit-page"), *map(str, words)],
+            # A command in the background of a shell has it ignored.
+            preexec_fn=lambda: signal.signal(signal.SIGINT, signal.default_int_handler),
+        ) as running:
+            limit = time.monotonic() + 60
+            while not number.exists() and time.monotonic() < limit:
+                time.sleep(0.02)
+            running.send_signal(signal.SIGINT)
+            self.assertEqual(running.wait(60), -signal.SIGINT)
+        self.assertFalse(Path(f"/proc/{number.read_text().strip()}").exists())
 
     def test_in_an_archive(self) -> None:
         """As release/pack makes it."""
         modules = self.folder / "modules"
-        for package in (PAGE / "qaudit_page", PROJECT / "qlog" / "qlog_to_trace"):
+        for package in (PAGE / "qaudit_page", PROJECT / "netlog" / "netlog_to_qlog"):
             shutil.copytree(package, modules / package.name)
             (modules / package.name / "VERSION").write_text("1.2.3\n")
         command = self.folder / "qaudit-page"
@@ -405,7 +513,7 @@ class Tables(InFolder):
 
     def run_command(self, *words: object, status: int = 2) -> str:
         """Runs the command; what it writes on standard error."""
-        command = [sys.executable, PAGE / "qaudit-matrix", "--program", PROGRAM]
+        command = [sys.executable, PAGE / "qaudit-matrix", *PROGRAMS]
         command += ["--output", "table.html", "--json", "now.json", *words, "logs"]
         ended = subprocess.run(
             list(map(str, command)),
@@ -526,7 +634,7 @@ class Ends(unittest.TestCase):
 
     def end(self, path: Path) -> End:
         """An end as a page has it."""
-        given = logs.taken(path, logs.Asked(logs.options_of()))
+        given = logs.taken(path, Asked(CONVERTER))
         _, trace = audited(str(PROGRAM), given.data, readers=0)
         return End(trace, path.name)
 
@@ -573,7 +681,7 @@ class Ends(unittest.TestCase):
 
     @unittest.skipIf(NO_LIBRARY, NO_LIBRARY)
     def test_the_page_of_both(self) -> None:
-        command = [sys.executable, PAGE / "qaudit-page", "--program", PROGRAM, *self.logs]
+        command = [sys.executable, PAGE / "qaudit-page", *PROGRAMS, *self.logs]
         ended = subprocess.run(list(map(str, command)), capture_output=True, check=True)
         page = Page(ended.stdout.decode())
         found = alignment_of(*self.ends)

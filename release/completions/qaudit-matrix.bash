@@ -6,7 +6,7 @@ _qaudit_matrix() {
         --pattern | --jobs | --convert) return ;;
     esac
     if [[ $current == -* ]]; then
-        local words='--pattern --pages --json --against --history --known --write-known --junit --sarif --annotate --output --jobs --dygraphs --program --convert --version --help'
+        local words='--pattern --pages --json --against --history --known --write-known --junit --sarif --annotate --output --jobs --dygraphs --program --convert --converter --version --help'
         mapfile -t COMPREPLY < <(compgen -W "$words" -- "$current")
     else
         compopt -o filenames

@@ -6,7 +6,7 @@ _qaudit_page() {
         --from | --to | --title | --convert) return ;;
     esac
     if [[ $current == -* ]]; then
-        local words='--from --to --title --output --dygraphs --program --convert --version --help'
+        local words='--from --to --title --output --dygraphs --program --convert --converter --version --help'
         mapfile -t COMPREPLY < <(compgen -W "$words" -- "$current")
     else
         compopt -o filenames

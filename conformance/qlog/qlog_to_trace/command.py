@@ -13,7 +13,6 @@ from pathlib import Path
 from typing import IO, BinaryIO, TextIO
 
 from . import streams
-from .compressed import decompressed
 from .connections import Connections, chosen_of, others
 from .conversion import Conversion
 from .detection import form_of
@@ -56,9 +55,8 @@ ENCODER = json.JSONEncoder(separators=(",", ":"), sort_keys=True)
 DESCRIPTION = """Turns the qlog of one QUIC connection into a trace that `qaudit check` reads.
 
 Reads qlog 0.3 and 0.4 and drafts before them: one JSON object, JSON-SEQ, or a JSON text a
-line. It also reads netlogs of Chromium, and logs that are compressed by gzip, xz or zstd. Each
-guess is at the key `x_guess` of its line, which qaudit ignores. A log whose end is torn off is
-converted up to there, and a line on standard error says so."""
+line. Each guess is at the key `x_guess` of its line, which qaudit ignores. A log whose end is
+torn off is converted up to there, and a line on standard error says so."""
 EPILOG = """The exit status is 0 for a trace, 2 if the input gives none, 3 if a file or a stream
 failed, and 64 for wrong arguments."""
 
@@ -355,9 +353,6 @@ class Converter:
         if self._has_connections:
             events = Connections(self._chosen).over(events)
         conversion.convert(each_loss(events), lambda: self._form.torn_at is not None)
-        for what, count in self._form.left_out.items():
-            if count:
-                self.notes.warnings.append(f"left out {count}: {what}")
 
     def _survey(self, dialect: Dialect) -> Survey:
         """The first reading, and what it says of connections."""
@@ -402,16 +397,16 @@ class Converter:
 
 
 def opened(name: str | None) -> BinaryIO:
-    """The input, which is copied if it cannot be read twice, and decompressed if it has to be."""
+    """The input, which is copied if it cannot be read twice."""
     source: BinaryIO = streams.standard_input() if name is None else Path(name).open("rb")
     if name is None and source.isatty():
         complain(f"reading {STANDARD_INPUT}")
     if source.seekable():
-        return decompressed(source)
+        return source
     copy: BinaryIO = tempfile.TemporaryFile()  # type: ignore[assignment]
     streams.copied(source, copy)
     copy.seek(0)
-    return decompressed(copy)
+    return copy
 
 
 def visible(text: str) -> str:

@@ -1,10 +1,8 @@
 """Logs that nobody would write."""
 
 import contextlib
-import gzip
 import io
 import json
-import lzma
 import random
 import subprocess
 import sys
@@ -18,6 +16,7 @@ from unittest import mock
 from . import hostile
 from .hostile import VALUES, cases, each_value, failure_of, failure_of_end, seeds
 from .made import (
+    FOLDER,
     PROGRAM,
     TOP,
     End,
@@ -111,34 +110,12 @@ class Limits(unittest.TestCase):
         self.assertEqual(ended.returncode, 2, ended.stderr)
         self.assertIn("its vantage point is neither", ended.stderr)
 
-    def test_what_a_log_unpacks_to(self) -> None:
-        zeros = bytes(1 << 20)
-        none = "byte 0: neither JSON-SEQ nor a JSON text a line nor one JSON object"
-        why = "unpacked it has more than 67,108,864 bytes: unpack it first"
-        for log, says in ((zeros * 64, none), (zeros * 64 + b" ", why)):
-            for packed in (gzip.compress(log), lzma.compress(log)):
-                self.check(packed, says)
-
     def test_counts_of_probe_timeouts(self) -> None:
         for count, status in ((32, 0), (33, 2)):
             events = [sent(0, 0), metrics(0, pto_count=0)]
             end = converted([*events, sent(9, 1), metrics(9, pto_count=count)])
             self.assertEqual(end.status, status)
         self.assertIn("packet_sent: pto_count rises to 33 at once", end.errors)
-
-    def test_numbers_of_a_netlog(self) -> None:
-        types = {"QUIC_SESSION_PACKET_SENT": 1}
-        event = {"type": 1, "source": {"id": 1}, "params": {"packet_number": 0}}
-        text = json.dumps({"constants": {"logEventTypes": types}, "events": [event | {"time": 7}]})
-        for number in ("1e999999999", "9" * 5000, '"x"'):
-            end = End(text.replace('"time": 7', f'"time": {number}'))
-            self.assertEqual((end.status, len(end.errors.splitlines())), (2, 1))
-
-    def test_sources_of_a_netlog(self) -> None:
-        types = {"QUIC_SESSION_PACKET_SENT": 1}
-        event = {"type": 1, "time": 7, "source": {"id": [1, {}]}, "params": {}}
-        end = End(json.dumps({"constants": {"logEventTypes": types}, "events": [event]}))
-        self.assertEqual((end.status, len(end.errors.splitlines())), (2, 1))
 
 
 class Times(unittest.TestCase):
@@ -201,7 +178,7 @@ class Terminals(unittest.TestCase):
 
 
 class Cases(unittest.TestCase):
-    """Some of those of `qlog/fuzz`."""
+    """Some of those of `fuzz`."""
 
     def test_cases(self) -> None:
         for case in islice(cases(1), CASES):
@@ -251,7 +228,7 @@ class Fuzz(unittest.TestCase):
     """The program that tries them."""
 
     def setUp(self) -> None:
-        self.fuzz = script(TOP / "qlog" / "fuzz")
+        self.fuzz = script(FOLDER / "fuzz")
         self.folder = Path(self.enterContext(tempfile.TemporaryDirectory()))
         self.before = figures.BEGIN + figures.END
         (self.folder / "docs").mkdir()
@@ -259,7 +236,7 @@ class Fuzz(unittest.TestCase):
 
     def said(self, *words: str) -> tuple[int, str]:
         """Its status, and what it prints."""
-        command = [sys.executable, str(TOP / "qlog" / "fuzz"), *words]
+        command = [sys.executable, str(FOLDER / "fuzz"), *words]
         ended = subprocess.run(command, capture_output=True, text=True, check=False)
         self.assertEqual(ended.stderr, "")
         return ended.returncode, ended.stdout

@@ -1,15 +1,20 @@
 """Which form a log has, by its first bytes."""
 
+import re
 from typing import BinaryIO
 
 from .errors import Unusable
 from .forms import RECORD_SEPARATOR, Document, Form, Sequence
-from .netlog import Netlog, is_netlog
 from .scanner import LONGEST_RECORD, decoded
 
 MARKS_OF_SEQUENCE = ("trace", "qlog_format", "file_schema", "serialization_format")
-# By their first bytes, files that are no log.
+# How a netlog of Chromium begins.
+NETLOG = re.compile(rb'\s*\{\s*"constants"')
+# By their first bytes, files that are no log that can be read.
 KINDS_OF_FILE = {
+    b"\x1f\x8b": "compressed by gzip: unpack it first",
+    b"\xfd7zXZ\x00": "compressed by xz: unpack it first",
+    b"\x28\xb5\x2f\xfd": "compressed by zstd: unpack it first",
     b"BZh": "compressed by bzip2: unpack it first",
     b"PK\x03\x04": "a zip archive: unpack it first",
     b"\xef\xbb\xbf": "it begins with a byte order mark, which JSON has not: take it off first",
@@ -32,8 +37,8 @@ def form_of(file: BinaryIO) -> Form:
         raise Unusable("empty")
     if first.startswith(RECORD_SEPARATOR):
         return Sequence(file)
-    if is_netlog(first):
-        return Netlog(file)
+    if NETLOG.match(first):
+        raise Unusable("a netlog of Chromium, which is not read here")
     try:
         header = decoded(first)
     except (ValueError, RecursionError):

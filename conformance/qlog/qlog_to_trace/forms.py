@@ -55,8 +55,6 @@ class Form:
         # Records that are no JSON: what is wrong with the one at which the log is torn, and with
         # those that were passed over.
         self.break_of_record: str | None = None
-        # What it did not hand on, and how many of each.
-        self.left_out: dict[str, int] = {}
         self.passed_over: list[str] = []
 
     def headers(self) -> Several[dict[str, Any]]:

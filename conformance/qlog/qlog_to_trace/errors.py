@@ -8,9 +8,5 @@ class Unusable(Exception):
         super().__init__(f"{place}: {reason}" if place else reason)
 
 
-class NoProgram(Unusable):
-    """An input that can be read only by a program that is not installed."""
-
-
 class Torn(Exception):
     """The input ends within a value."""

@@ -3,13 +3,10 @@
 import gzip
 import json
 import lzma
-import shutil
-import subprocess
 import unittest
 from typing import Any
 
 from .made import (
-    PROGRAM,
     End,
     Event,
     converted,
@@ -51,10 +48,10 @@ class NoLogs(unittest.TestCase):
 
     def test_other_files(self) -> None:
         log = sequence(header(), EVENTS)
-        self.refused(gzip.compress(log.encode())[:-9], "broken or not whole, as gzip data")
-        self.refused(b"\x1f\x8b" + log.encode(), "broken or not whole, as gzip data")
-        self.refused(lzma.compress(log.encode())[:-9], "broken or not whole, as xz data")
-        self.refused(b"\x28\xb5\x2f\xfd" + log.encode(), "broken or not whole, as zstd data")
+        self.refused(gzip.compress(log.encode()), "compressed by gzip: unpack it first")
+        self.refused(lzma.compress(log.encode()), "compressed by xz: unpack it first")
+        self.refused(b"\x28\xb5\x2f\xfd" + log.encode(), "compressed by zstd: unpack it first")
+        self.refused(b'{"constants": {', "a netlog of Chromium, which is not read here")
         self.refused(b"BZh" + log.encode(), "compressed by bzip2: unpack it first")
         self.refused(b"\xef\xbb\xbf" + log.encode(), "it begins with a byte order mark")
         self.refused(b"\xd4\xc3\xb2\xa1\x02\x00", "a capture of packets and no log")
@@ -67,19 +64,6 @@ class NoLogs(unittest.TestCase):
         end = converted([*EVENTS[:1], received(20, [[0]], delay=True)])
         self.assertEqual(end.status, 2)
         self.assertIn("line 3: packet_received: ack_delay is no number", end.errors)
-
-    def test_compressed_logs(self) -> None:
-        log = sequence(header(), EVENTS).encode()
-        wanted = End(log).text
-        packed = [gzip.compress(log), lzma.compress(log)]
-        if shutil.which("zstd"):
-            made = subprocess.run(["zstd", "-c"], input=log, capture_output=True, check=True)
-            packed.append(made.stdout)
-        for data in packed:
-            end = End(data)
-            self.assertEqual((end.status, end.text, end.errors), (0, wanted, ""))
-        ended = subprocess.run([PROGRAM], input=packed[0], capture_output=True, check=True)
-        self.assertEqual(ended.stdout.decode(), wanted)
 
     def test_packets_without_frames(self) -> None:
         no_frames = [without_frames(event) for event in EVENTS]

@@ -7,7 +7,7 @@ from pathlib import Path
 
 from qlog_to_trace.dialects import DIALECTS, GENERIC, Absent, Dialect, Limited
 
-SOURCE = Path(__file__).parents[2] / "crates/qa_convert/src/dialects.rt"
+SOURCE = Path(__file__).parents[3] / "crates/qa_convert/src/dialects.rt"
 CONSTANT = re.compile(r"const (\w+): Dialect = Dialect \{\n(.*?)\n\};", re.DOTALL)
 ORDER = re.compile(r"const DIALECTS: \[Dialect; \d+\] = \[\n(.*?)\n\];", re.DOTALL)
 BASE = re.compile(r"\.\.(\w+)")

@@ -8,7 +8,7 @@ import unittest
 from qlog_to_trace.command import arguments
 from qlog_to_trace.dialects import DIALECTS
 
-from .made import TOP, End, Line
+from .made import FOLDER, TOP, End, Line
 
 REAL = TOP / "conformance" / "real" / "traces"
 # What a header of each version says if it leaves a key out.
@@ -57,10 +57,10 @@ class Pages(unittest.TestCase):
                 self.assertRegex(text, rf"[(']{names}[)']", path.name)
 
     def test_what_is_set_for_each_kind_of_log(self) -> None:
-        words = [sys.executable, str(TOP / "qlog" / "dialects")]
+        words = [sys.executable, str(FOLDER / "dialects")]
         table = subprocess.run(words, capture_output=True, text=True, check=True).stdout
         page = (TOP / "docs" / "stacks.md").read_text()
-        self.assertIn(f"\n\n{table}\n", page, "`qlog/dialects --write` mends it")
+        self.assertIn(f"\n\n{table}\n", page, "`conformance/qlog/dialects --write` mends it")
 
 
 class Real(unittest.TestCase):
@@ -68,7 +68,7 @@ class Real(unittest.TestCase):
     sets no limit for late timers, and in it the latest round-trip time may be kept whole."""
 
     def test_real(self) -> None:
-        paths = [*sorted(REAL.glob("*.qlog")), *sorted(REAL.glob("*.netlog"))]
+        paths = sorted(REAL.glob("*.qlog"))
         self.assertTrue(paths)
         for path in paths:
             with self.subTest(path.name):

@@ -37,13 +37,6 @@ FROM: dict[str, tuple[str, ...]] = {
     "confirmed": ("key_discarded", "key_retired"),
     "discard": ("key_discarded", "key_retired"),
 }
-# The same in a netlog.
-OF_NETLOG: dict[str, tuple[str, ...]] = {
-    "sent": ("QUIC_SESSION_PACKET_SENT",),
-    "ack": ("QUIC_SESSION_ACK_FRAME_RECEIVED",),
-    "lost": ("QUIC_SESSION_PACKET_LOST",),
-    "keys": ("QUIC_SESSION_UNAUTHENTICATED_PACKET_HEADER_RECEIVED",),
-}
 FIVE = [sent(0, number) for number in range(5)]
 LOST = [*FIVE, received(50, [[4, 4]]), lost(50, 0), lost(50, 1)]
 # How many ranges a line has room for that has no place.
@@ -123,35 +116,31 @@ def record_at(log: Path, unit: str, number: int) -> Any:
     return json.loads(text.removeprefix(RECORD_SEPARATOR))
 
 
-def name_of(record: Any, fields: list[str], types: dict[int, str]) -> str:
+def name_of(record: Any) -> str:
     """The name of the event of a record, without its category."""
-    if types:
-        return types[record["type"]]
-    if isinstance(record, list):
-        record = dict(zip(fields, record, strict=False))
     return str(record.get("name") or record["event"]).rpartition(":")[2]
 
 
 def number_in(record: Any) -> int:
     """The number of the packet of a record."""
-    data = record.get("data") or record["params"]
+    data = record["data"]
     return int(data.get("header", data).get("packet_number", data.get("packet_number")))
 
 
 class Real(unittest.TestCase):
     """In each log of a real stack, at the place of a line there is a record that can say it."""
 
-    def check(self, log: Path, line: Any, types: dict[int, str]) -> str:
+    def check(self, log: Path, line: Any) -> str:
         """A line of a trace; what it was found to be from."""
         match = PLACE.fullmatch(str(line["x_place"]))
         assert match, line
         guessed, unit, number, *_, last = match.groups()
         found = record_at(log, unit, int(number))
-        name, kind = name_of(found, [], types), line["event"]
+        name, kind = name_of(found), line["event"]
         if guessed:
             self.assertIn(kind, ("timer", "discard", "confirmed", "metrics"), line)
             return "guessed"
-        self.assertIn(name, (OF_NETLOG if types else FROM)[kind], line)
+        self.assertIn(name, FROM[kind], line)
         if kind == "sent":
             self.assertEqual(number_in(found), line["number"])
         if kind == "lost":
@@ -161,15 +150,10 @@ class Real(unittest.TestCase):
         return str(kind)
 
     def test_each_line_has_its_record(self) -> None:
-        paths = [*sorted(REAL.glob("*.qlog")), *sorted(REAL.glob("*.netlog"))]
-        for path in paths:
-            types: dict[int, str] = {}
-            if path.suffix == ".netlog":
-                constants = json.loads(path.read_bytes())["constants"]
-                types = {number: name for name, number in constants["logEventTypes"].items()}
+        for path in sorted(REAL.glob("*.qlog")):
             end = End(path.read_bytes(), "--places")
             with self.subTest(path.name):
-                kinds = {self.check(path, line, types) for line in end.lines[1:]}
+                kinds = {self.check(path, line) for line in end.lines[1:]}
                 self.assertLessEqual({"sent", "ack"}, kinds)
 
 

@@ -11,7 +11,8 @@ from qlog_to_trace.command import main
 
 HERE = Path(__file__).parent
 PROGRAM = HERE.parent / "qlog-to-trace"
-TOP = HERE.parent.parent
+FOLDER = HERE.parent
+TOP = HERE.parents[2]
 
 Event = dict[str, Any]
 Line = dict[str, Any]

@@ -1,24 +1,18 @@
-"""The netlog of Chromium, read as if it were the qlog of each of its QUIC sessions.
+"""The events of one QUIC session of Chromium, read as records of a qlog.
 
-`chromium --log-net-log=FILE --net-log-capture-mode=Everything` writes one. It has packets that are
-sent and declared lost in microseconds, packets that come in milliseconds, and frames as events of
-their own: those of a packet that is sent stand before it. No window, no bytes in flight, no
-round-trip times and no timers are in it.
+A netlog has packets that are sent and declared lost in microseconds, packets that come in
+milliseconds, and frames as events of their own: those of a packet that is sent stand before it. No
+window, no bytes in flight, no round-trip times and no timers are in it.
 """
 
+import math
 import re
-from collections import Counter
-from collections.abc import Iterator, Sequence
-from typing import Any, BinaryIO, NamedTuple
+from bisect import bisect_left, insort
+from collections.abc import Iterator
+from typing import Any, NamedTuple
 
-from .errors import Torn, Unusable
-from .flight import Numbers
-from .forms import Form, Record
-from .numbers import NoNumberError, Numeral, instant
-from .scanner import LONGEST_RECORD, Scanner
+from .errors import Unusable
 
-MARK = re.compile(rb'\s*\{\s*"constants"')
-PREFIX = "QUIC_SESSION_"
 TYPE_OF_LEVEL = {
     "ENCRYPTION_INITIAL": "initial",
     "ENCRYPTION_HANDSHAKE": "handshake",
@@ -35,23 +29,52 @@ FRAMES_OF_PATHS = {"path_challenge", "path_response", "padding"}
 # own time is cut to a millisecond.
 LATE = 3_000
 FRAME_SENT, FRAME_RECEIVED = "_FRAME_SENT", "_FRAME_RECEIVED"
+PACKET = "packet_number"
+# Events that tell of a packet that came.
+OF_RECEIVED = (
+    "UNAUTHENTICATED_PACKET_HEADER_RECEIVED",
+    "BUFFERED_UNDECRYPTABLE_PACKET",
+    "DROPPED_UNDECRYPTABLE_PACKET",
+)
+# Events behind which no loss belongs to the acknowledgment before.
+BOUNDARIES = (
+    "PACKET_SENT",
+    "PACKET_RECEIVED",
+    "ACK_FRAME_RECEIVED",
+    "UNAUTHENTICATED_PACKET_HEADER_RECEIVED",
+    "HANDSHAKE_DONE_FRAME_RECEIVED",
+    "CONNECTION_CLOSE",
+    "CLOSED",
+)
+# What a whole number is below, and how many microseconds a time is below.
+LIMIT = 1 << 63
+LIMIT_OF_TIMES = LIMIT // 1_000
+# A number in a string, as a netlog has large ones.
+NUMBER = re.compile(r"-?[0-9]{1,20}")
+DELAY = re.compile(r"\bmax_ack_delay ([0-9]{1,20})")
+# So many parts of a list are not taken out one by one.
+MANY = 16
+# No packet has more frames; and the names of frames have fewer characters.
+MOST_FRAMES, LONGEST_NAME = 2_000, 64
+UNKNOWN_FRAME = "unknown"
 Values = dict[str, Any]
-
-
-def is_netlog(first: bytes) -> bool:
-    """Whether a file begins as a netlog does."""
-    return MARK.match(first) is not None
+Ranges = list[list[int]]
 
 
 def number_of(values: Values, key: str) -> int:
     """A whole number, which a netlog may write as a string."""
-    try:
-        return instant(values.get(key), 0)
-    except NoNumberError as error:
-        raise Unusable(f"a netlog without {key} in an event that has one") from error
+    said = values.get(key)
+    value = float("nan")
+    if isinstance(said, str) and NUMBER.fullmatch(said):
+        value = int(said)
+    elif isinstance(said, int | float) and not isinstance(said, bool):
+        value = said
+    if not math.isfinite(value) or abs(int(value)) >= LIMIT:
+        raise Unusable(f"a netlog without {key} in an event that has one")
+    return int(value)
 
 
-def ranges_of(values: Values) -> list[list[int]]:
+def ranges_of(values: Values) -> Ranges:
     """The ranges of an ACK frame, by its ends and what is missing between."""
     low, high = number_of(values, "smallest_observed"), number_of(values, "largest_observed")
     found, start = [], low
@@ -66,13 +89,22 @@ def ranges_of(values: Values) -> list[list[int]]:
     return found
 
 
+class Record(NamedTuple):
+    """A record: where in the netlog it is from, its time in microseconds, its name and its data."""
+
+    place: str
+    time: int
+    name: str
+    data: Values
+
+
 class Ack(NamedTuple):
     """An acknowledgment: where it is in the netlog, its time in microseconds, the ranges and the
     delay."""
 
     place: str
     time: int
-    ranges: list[list[int]]
+    ranges: Ranges
     delay: int
 
 
@@ -82,6 +114,37 @@ class Loss(NamedTuple):
     place: str
     time: int
     number: int
+
+
+class Numbers:
+    """Packet numbers in ascending order."""
+
+    def __init__(self) -> None:
+        self._all: list[int] = []
+
+    def __contains__(self, number: int) -> bool:
+        place = bisect_left(self._all, number)
+        return self._all[place : place + 1] == [number]
+
+    def add(self, number: int) -> None:
+        """One more, if it is not there yet."""
+        if not self._all or number > self._all[-1]:
+            self._all.append(number)
+        elif number not in self:
+            insort(self._all, number)
+
+    def take(self, ranges: Ranges) -> None:
+        """Takes out those that are in these ranges, which ascend and are apart."""
+        parts = [
+            slice(bisect_left(self._all, low), bisect_left(self._all, high + 1))
+            for low, high in ranges
+        ]
+        if len(parts) <= MANY:
+            for part in reversed(parts):
+                del self._all[part]
+            return
+        gone = {number for part in parts for number in self._all[part]}
+        self._all = [number for number in self._all if number not in gone]
 
 
 class Session:
@@ -126,15 +189,15 @@ class Session:
         elif name == "UNAUTHENTICATED_PACKET_HEADER_RECEIVED":
             yield from self._on_header(time, values)
         elif name == "TRANSPORT_PARAMETERS_RECEIVED":
-            yield Record(place, self._parameters(time, values))
+            yield self._parameters(time, values)
         elif name == "HANDSHAKE_DONE_FRAME_RECEIVED":
-            yield Record(place, self._packet_received(time, {"frame_type": "handshake_done"}))
+            yield self._packet_received(time, {"frame_type": "handshake_done"})
         elif name in ("CONNECTION_CLOSE_FRAME_SENT", "CONNECTION_CLOSE_FRAME_RECEIVED"):
-            yield Record(place, self._packet_received(time, {"frame_type": "connection_close"}))
+            yield self._packet_received(time, {"frame_type": "connection_close"})
         elif name == "COALESCED_PACKET_SENT":
             self._frames = []
-        elif name.endswith(FRAME_SENT):
-            self._frames.append(name.removesuffix(FRAME_SENT).lower())
+        elif name.endswith(FRAME_SENT) and len(self._frames) < MOST_FRAMES:
+            self._frames.append(kind_of_frame(name.removesuffix(FRAME_SENT)))
 
     def rest(self) -> Iterator[Record]:
         """What still waits at the end."""
@@ -161,19 +224,17 @@ class Session:
             time = self._lost[-1].time
         delay = in_milliseconds(ack.delay)
         frame = {"frame_type": "ack", "ack_delay": delay, "acked_ranges": ack.ranges}
-        yield Record(ack.place, self._packet_received(time, frame))
-        held = self._in_flight.get(kind, Numbers())
-        held.take(held.within(ack.ranges))
+        yield self._packet_received(time, frame, ack.place)
+        self._in_flight.get(kind, Numbers()).take(ack.ranges)
         if self._lost:
             yield from self._losses(kind if is_shown else None)
 
     def _losses(self, kind: str | None) -> Iterator[Record]:
         for place, time, number in self._lost:
             found = kind or self._kind_of(number)
-            held = self._in_flight.get(found, Numbers())
-            held.take(held.within([[number, number]]))
+            self._in_flight.get(found, Numbers()).take([[number, number]])
             header = {"packet_type": found, PACKET: number}
-            yield Record(place, event(time, "packet_lost", {"header": header}))
+            yield Record(place, time, "recovery:packet_lost", {"header": header})
         self._lost = []
 
     def _kind_of(self, number: int) -> str:
@@ -187,7 +248,7 @@ class Session:
         is_behind_gap = self._last_number is not None and number > self._last_number + 1
         self._last_number = number
         # A packet whose frames are not logged is one that asks for an acknowledgment.
-        frames, self._frames = self._frames or ["unknown"], []
+        frames, self._frames = self._frames or [UNKNOWN_FRAME], []
         if set(frames) <= FRAMES_OF_PATHS and set(frames) != {"padding"}:
             self.of_paths += 1
             return
@@ -195,11 +256,9 @@ class Session:
         if self._is_bare and kind == "initial" and values.get("transmission_type") == AGAIN:
             # All that it had sent goes out again at once.
             self._is_bare = False
-            retry = event(time, "packet_received", {"header": {"packet_type": "retry"}})
-            yield Record(self._place, retry)
-        held = self._in_flight.setdefault(kind, Numbers())
-        if number not in held:
-            held.add(number)
+            retry = {"header": {"packet_type": "retry"}}
+            yield Record(self._place, time, "transport:packet_received", retry)
+        self._in_flight.setdefault(kind, Numbers()).add(number)
         data: Values = {
             "header": {"packet_type": kind, PACKET: number},
             "raw": {"length": size},
@@ -208,130 +267,35 @@ class Session:
         # At a probe timeout the sender passes over a number.
         if values.get("transmission_type") == PROBE or is_behind_gap:
             data["trigger"] = "pto_probe"
-        yield Record(self._place, event(time, "packet_sent", data))
+        yield Record(self._place, time, "transport:packet_sent", data)
 
     def _on_header(self, time: int, values: Values) -> Iterator[Record]:
         kind = str(values.get("long_header_type"))
         is_long = values.get("header_format") == LONG_HEADER
         self._received = TYPE_OF_HEADER.get(kind, "1RTT") if is_long else "1RTT"
         if self._received == "handshake":
-            crypto = self._packet_received(time, {"frame_type": "crypto"})
-            yield Record(self._place, crypto)
+            yield self._packet_received(time, {"frame_type": "crypto"})
 
-    def _packet_received(self, time: int, frame: Values) -> Values:
+    def _packet_received(self, time: int, frame: Values, place: str = "") -> Record:
         # Its number is not logged.
         header = {"packet_type": self._received, PACKET: 0}
-        return event(time, "packet_received", {"header": header, "frames": [frame]})
+        data: Values = {"header": header, "frames": [frame]}
+        return Record(place or self._place, time, "transport:packet_received", data)
 
-    @staticmethod
-    def _parameters(time: int, values: Values) -> Values:
-        text = str(values.get("quic_transport_parameters"))
-        found = re.search(r"\bmax_ack_delay (\d+)", text)
+    def _parameters(self, time: int, values: Values) -> Record:
+        found = DELAY.search(str(values.get("quic_transport_parameters")))
         data: Values = {"owner": "remote"}
         if found:
             data["max_ack_delay"] = int(found[1])
-        return event(time, "parameters_set", data)
+        return Record(self._place, time, "transport:parameters_set", data)
 
 
-PACKET = "packet_number"
-# Events that tell of a packet that came.
-OF_RECEIVED = (
-    "UNAUTHENTICATED_PACKET_HEADER_RECEIVED",
-    "BUFFERED_UNDECRYPTABLE_PACKET",
-    "DROPPED_UNDECRYPTABLE_PACKET",
-)
-# Events behind which no loss belongs to the acknowledgment before.
-BOUNDARIES = (
-    "PACKET_SENT",
-    "PACKET_RECEIVED",
-    "ACK_FRAME_RECEIVED",
-    "UNAUTHENTICATED_PACKET_HEADER_RECEIVED",
-    "HANDSHAKE_DONE_FRAME_RECEIVED",
-    "CONNECTION_CLOSE",
-    "CLOSED",
-)
+def kind_of_frame(name: str) -> str:
+    """The kind of a frame as a qlog has it."""
+    is_name = name.isascii() and len(name) <= LONGEST_NAME
+    return name.lower() if is_name else UNKNOWN_FRAME
 
 
-def in_milliseconds(microseconds: int) -> Numeral:
-    """A time or a duration as a qlog has it."""
-    return Numeral(f"{microseconds}e-3")
-
-
-def event(microseconds: int, name: str, data: Values) -> Values:
-    """An event of a qlog."""
-    return {"time": in_milliseconds(microseconds), "name": name, "data": data}
-
-
-class Netlog(Form):
-    """A netlog; each QUIC session that sent packets is a trace, the one with most of them first."""
-
-    def __init__(self, file: BinaryIO) -> None:
-        super().__init__(file)
-        self._sessions: list[object] = []
-
-    def headers(self) -> Sequence[dict[str, Any]]:
-        """What there is to say of a session."""
-        sent: Counter[object] = Counter()
-        for _, name, source, _ in self._events():
-            if name == PREFIX + "PACKET_SENT":
-                sent[source] += 1
-        if not sent:
-            raise Unusable("a netlog without packets of QUIC: it needs --net-log-capture-mode")
-        self._sessions = [source for source, _ in sent.most_common()]
-        header = {
-            "title": "netlog of Chromium",
-            "vantage_point": {"type": "client"},
-            "common_fields": {"time_format": "absolute"},
-        }
-        return [header for _ in self._sessions]
-
-    def events(self, index: int) -> Iterator[Record]:
-        """The events of a session."""
-        session = Session()
-        for place, name, source, member in self._events():
-            if source != self._sessions[index] or not name.startswith(PREFIX):
-                continue
-            values = member.get("params")
-            values = values if isinstance(values, dict) else {}
-            time = number_of(member, "time")
-            yield from session.records(place, name.removeprefix(PREFIX), time, values)
-        yield from session.rest()
-        self.left_out = {"packets that probe another path": session.of_paths}
-
-    def _events(self) -> Iterator[tuple[str, str, object, Values]]:
-        """The place, the name, the source and all of each event."""
-        self.torn_at = None
-        self.file.seek(0)
-        scanner = Scanner(self.file)
-        names: dict[object, str] = {}
-        try:
-            for key in scanner.members():
-                if key == "constants":
-                    names = names_of(scanner.value())
-                elif key != "events":
-                    scanner.value()
-                else:
-                    yield from self._members(scanner, names)
-        except Torn:
-            self.torn_at = scanner.place()
-
-    @staticmethod
-    def _members(
-        scanner: Scanner, names: dict[object, str]
-    ) -> Iterator[tuple[str, str, object, Values]]:
-        for _ in scanner.elements():
-            place = scanner.next_place()
-            member = scanner.value(LONGEST_RECORD)
-            if not isinstance(member, dict):
-                continue
-            source = member.get("source")
-            source = str(source.get("id")) if isinstance(source, dict) else None
-            yield place, names.get(str(member.get("type")), ""), source, member
-
-
-def names_of(constants: object) -> dict[object, str]:
-    """The names of events by their numbers."""
-    types = constants.get("logEventTypes") if isinstance(constants, dict) else None
-    if not isinstance(types, dict):
-        raise Unusable("a netlog without logEventTypes in its constants")
-    return {str(number): name for name, number in types.items()}
+def in_milliseconds(microseconds: int) -> float:
+    """A time or a duration as a qlog has it. Of those that a trace can have no digit is lost."""
+    return microseconds / 1_000

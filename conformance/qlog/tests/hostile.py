@@ -1,7 +1,6 @@
 """Logs that nobody would write: real ones in which a value, a byte or the end is another."""
 
 import contextlib
-import gzip
 import json
 import random
 import signal
@@ -209,7 +208,7 @@ class Seed:
         """A torn log, or one with a byte more or less."""
         data = self.text(self.value)
         place = chance.randrange(len(data))
-        match chance.randrange(6):
+        match chance.randrange(5):
             case 0:
                 return Case(f"{self.name}: torn at byte {place}", data[:place])
             case 1:
@@ -220,11 +219,6 @@ class Seed:
                 end = place + chance.choice((1, 2, 10, 1_000, 100_000))
                 name = f"{self.name}: white space from byte {place} to {end}"
                 return Case(name, data[:place] + b" " * (end - place) + data[end:])
-            case 4:
-                packed = gzip.compress(data, 1)
-                place %= len(packed)
-                name = f"{self.name}: packed, and without byte {place}"
-                return Case(name, packed[:place] + packed[place + 1 :])
         more = chance.choice(BYTES)
         return Case(f"{self.name}: {more!r} at byte {place}", data[:place] + more + data[place:])
 
@@ -245,7 +239,7 @@ def ways_into(value: Any, way: Way = (), kind: Way = ()) -> Iterator[tuple[Way, 
 
 def seeds() -> list[Seed]:
     """The real logs."""
-    return [Seed(path) for path in sorted([*REAL.glob("*.qlog"), *REAL.glob("*.netlog")])]
+    return [Seed(path) for path in sorted(REAL.glob("*.qlog"))]
 
 
 def each_value(logs: list[Seed], chance: random.Random) -> list[tuple[Seed, Way, str]]:

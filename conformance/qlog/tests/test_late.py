@@ -9,7 +9,6 @@ import unittest
 
 from qlog_to_trace.dialects import TIMER_LATE, TIMER_LATE_UNSEEN
 
-from . import test_netlog as netlogs
 from .made import (
     TOP,
     End,
@@ -59,11 +58,6 @@ class Silences(unittest.TestCase):
 
     def log(self, name: str, schema: str, time: float, *, has_count: bool = True) -> End:
         """A log whose second packet is sent at a time."""
-        if name == "chromium":
-            level: Event = {"encryption_level": "ENCRYPTION_INITIAL"}
-            packets = [netlogs.sent(0, 1, "CRYPTO", **level)]
-            packets.append(netlogs.sent(time, 2, "CRYPTO", **level))
-            return End(netlogs.netlog(*packets))
         count = [metrics(0, pto_count=0)] if has_count else []
         events = [sent(0, 0, "initial"), *count, sent(time, 1, "initial", frames=("crypto",))]
         return converted(events, name=name, schema=schema, role="client")
@@ -79,7 +73,7 @@ class Silences(unittest.TestCase):
             ("neqo-Client", "0.3", TIMER_LATE),
             ("quiche", "0.3", TIMER_LATE),
             ("something", "0.3", TIMER_LATE),
-            ("chromium", "", TIMER_LATE),
+            ("netlog of Chromium", "", TIMER_LATE),
         ):
             lines = self.log(name, schema, 1).lines
             self.assertEqual(lines[0]["timer_late_us"], limit)
@@ -128,7 +122,7 @@ class Silences(unittest.TestCase):
         self.assertIn("pto_count", converted(events).errors)
 
     def test_no_real_log_is_refused_for_its_grain(self) -> None:
-        for path in [*sorted(REAL.glob("*.qlog")), *sorted(REAL.glob("*.netlog"))]:
+        for path in sorted(REAL.glob("*.qlog")):
             with self.subTest(path.name):
                 log = path.read_bytes()
                 without, limited = End(log, "--timer-late", "no"), End(log)

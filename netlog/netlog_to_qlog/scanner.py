@@ -1,5 +1,4 @@
-"""JSON: a text as its value, and a file that is read from its beginning, a value at a time, without
-the whole of it in memory."""
+"""JSON that is read from a file, a value at a time, without the whole of it in memory."""
 
 import codecs
 import json
@@ -8,7 +7,6 @@ from collections.abc import Iterator
 from typing import Any, BinaryIO, NoReturn
 
 from .errors import Torn, Unusable
-from .numbers import Numeral, integer_of
 
 PIECE = 1 << 18
 # A text that makes no value by then never will; and how long an event may be.
@@ -19,12 +17,8 @@ MOST_KEYS = 1_000
 WHITE = re.compile(r"[ \t\r\n]*")
 # An error this near to the end may be one of a literal, a number or an escape that was cut.
 LONGEST_TOKEN = 6
-# How deep lists and objects are within one another at most.
-DEEPEST = 128
-# A string, or a bracket outside of one; and what a backslash begins in a string.
-STRING_OR_BRACKET = re.compile(r'"[^"\\]*(?:\\.[^"\\]*)*"|[\[\]{}]', re.DOTALL)
-ESCAPE = re.compile(r"\\(?:u([0-9a-fA-F]{4})|.)")
-HIGH_SURROGATES, LOW_SURROGATES = range(0xD800, 0xDC00), range(0xDC00, 0xE000)
+# An integer with more digits than any that counts is read as a float, if need be infinite.
+MOST_DIGITS = 20
 
 
 def no_constant(name: str) -> NoReturn:
@@ -32,51 +26,12 @@ def no_constant(name: str) -> NoReturn:
     raise ValueError(f"{name} is no JSON")
 
 
-DECODER = json.JSONDecoder(parse_float=Numeral, parse_int=integer_of, parse_constant=no_constant)
+def integer_of(text: str) -> int | float:
+    """An integer of JSON."""
+    return int(text) if len(text) <= MOST_DIGITS else float(text)
 
 
-def decoded(text: bytes) -> Any:
-    """The value of a text, all of which is JSON. ValueError or RecursionError comes if it is not,
-    or nests too deep."""
-    words = text.decode()
-    value = DECODER.decode(words)
-    check(words)
-    return value
-
-
-def check(text: str) -> None:
-    """Whether a text, which Python takes for JSON, nests no deeper than it may, and has no half of
-    a character that UTF-16 writes in two."""
-    if text.count("[") + text.count("{") > DEEPEST and depth_of(text) > DEEPEST:
-        raise RecursionError
-    if "\\u" in text and has_lone_surrogate(text):
-        raise ValueError("a surrogate by itself")
-
-
-def depth_of(text: str) -> int:
-    """How deep lists and objects are within one another in a text that is JSON."""
-    depth = deepest = 0
-    for token in STRING_OR_BRACKET.findall(text):
-        if token in "[{":
-            depth += 1
-            deepest = max(deepest, depth)
-        elif token in "]}":
-            depth -= 1
-    return deepest
-
-
-def has_lone_surrogate(text: str) -> bool:
-    """Whether the strings of a text that is JSON escape half of a character."""
-    # Where the other half has to be.
-    awaited = None
-    for found in ESCAPE.finditer(text):
-        unit = int(found[1], 16) if found[1] else 0
-        if awaited is not None and (found.start() != awaited or unit not in LOW_SURROGATES):
-            return True
-        if awaited is None and unit in LOW_SURROGATES:
-            return True
-        awaited = found.end() if unit in HIGH_SURROGATES else None
-    return awaited is not None
+DECODER = json.JSONDecoder(parse_int=integer_of, parse_constant=no_constant)
 
 
 def reason_of(error: Exception) -> str:

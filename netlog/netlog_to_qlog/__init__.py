@@ -1,0 +1,1 @@
+"""The qlog of a netlog of Chromium, and logs that are compressed."""
