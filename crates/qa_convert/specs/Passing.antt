@@ -1,6 +1,7 @@
--- Events on their way from the log to the lines: each joins those that wait for their order, and goes
--- on into groups.
-use Rattle.std.specs.Prelude.{◌≡◌, ◌++◌, ◌||◌, ℕ, Bool, true, false, List, [], ◌∷◌, Option, Some, None, if◌then◌else◌, nat_le, nat_lt, unwrap_or}
+-- Events on their way from the log to the lines: each joins those that wait for their order, and
+-- goes on into groups.
+use Rattle.std.specs.Prelude.{◌≡◌, ◌++◌, ◌||◌, ℕ, Bool, true, false, List, [], ◌∷◌}
+use Rattle.std.specs.Prelude.{Option, Some, None, if◌then◌else◌, nat_le, nat_lt, unwrap_or}
 use Rattle.qa_base.specs.values.PerSpace.{of_space}
 use Rattle.qa_convert.specs.Groups.{Gathers, Held}
 use Rattle.qa_convert.specs.Orders.{Follows}
@@ -43,9 +44,10 @@ counted retry e = if is_left_out retry e then [] else e ∷ []
 abbrev pub waiting : List LoggedEvent → Option (List LoggedEvent) → List LoggedEvent
 waiting events order = events ++ unwrap_or order []
 
--- more events come: they join those that wait, some of these go on into groups, and groups leave the
--- queue in which they are handed out, to be written
-pub record Passes (waits : List LoggedEvent) (old : Held) (ready : List Group) (more waits' : List LoggedEvent) (new : Held) (ready' : List Group) : Type 0 where
+-- more events come: they join those that wait, some of these go on into groups, and groups leave
+-- the queue in which they are handed out, to be written
+pub record Passes (waits : List LoggedEvent) (old : Held) (ready : List Group)
+    (more waits' : List LoggedEvent) (new : Held) (ready' : List Group) : Type 0 where
   pub ordered : List LoggedEvent
   pub follows : Follows waits more (ordered ++ waits')
   pub written : List Group

@@ -70,8 +70,8 @@ impl<'a, F: Read> Lines<'a, F> {
     }
 }
 
-/// The lines of the trace of a log with these bytes, from the first on, which is the header. The log
-/// is read twice before.
+/// The lines of the trace of a log with these bytes, from the first on, which is the header. The
+/// log is read twice before.
 pub fn lines_of<'a, R: Files>(
     rt: &R,
     alloc: Global,
