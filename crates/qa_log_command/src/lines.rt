@@ -23,7 +23,7 @@ pub struct Lines<'a, F> {
     passed: u64,
 }
 
-impl<'a, F: Read> Lines<'a, F> {
+impl<'a, F: Read + Drop> Lines<'a, F> {
     /// The header, with its LF; or once `advance` was called lines of events, each ended by LF, and
     /// perhaps none.
     pub fn text(&self) -> &[u8]

@@ -18,7 +18,7 @@ pub struct TraceReader<'a, F> {
     failure: Option<Failure>,
 }
 
-impl<'a, F: Read> TraceReader<'a, F> {
+impl<'a, F: Read + Drop> TraceReader<'a, F> {
     /// Before the first of these lines.
     pub fn new(lines: Lines<'a, F>) -> TraceReader<'a, F> {
         TraceReader {
@@ -73,7 +73,7 @@ impl<'a, F: Read> TraceReader<'a, F> {
     }
 }
 
-impl<'a, F: Read> Read for TraceReader<'a, F> {
+impl<'a, F: Read + Drop> Read for TraceReader<'a, F> {
     fn read(&mut self, buffer: &mut [u8]) -> io::Result<usize> {
         self.fill()?;
         let rest = self.rest();

@@ -55,7 +55,7 @@ fn request() -> Request {
 }
 
 /// Tells of these lines, which are the trace of the log of this name.
-fn tell_lines<F: Read, O: Sink, E: Sink>(
+fn tell_lines<F: Read + Drop, O: Sink, E: Sink>(
     alloc: Global,
     inquiry: &Inquiry<'_>,
     name: &str,

@@ -1,5 +1,5 @@
 use Rattle.std.proofs.Common.{false}
-use Rattle.qa_log_command.proofs.Lines.{stopped_leaves, traced_leaves}
+use Rattle.qa_log_command.proofs.WrittenLines.{stopped_leaves, traced_leaves}
 use Rattle.qa_log_command.proofs.commanding.write_trace.Goals as goal
 
 pub returns-in-Ok-clause-written : goal.returns-in-Ok-clause-written

@@ -1,4 +1,4 @@
-use Rattle.qa_log_command.proofs.Lines.{no_lines, stopped_by}
+use Rattle.qa_log_command.proofs.WrittenLines.{no_lines, stopped_by}
 use Rattle.qa_log_command.proofs.converting.convert.Goals as goal
 
 pub returns-in_err-bytes-clause-written : goal.returns-in_err-bytes-clause-written

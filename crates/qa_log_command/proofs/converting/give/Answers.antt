@@ -1,4 +1,4 @@
-use Rattle.qa_log_command.proofs.Lines.{text_is_lines}
+use Rattle.qa_log_command.proofs.WrittenLines.{text_is_lines}
 use Rattle.qa_log_command.proofs.converting.give.Goals as goal
 
 pub returns-clause-written : goal.returns-clause-written
