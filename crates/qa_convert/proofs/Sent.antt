@@ -1,5 +1,5 @@
 -- Lines of packets that were sent.
-use Rattle.std.proofs.Common.{◌≡◌, ◌∙◌, ◌<◌, ◌||◌, ℕ, Bool, true, false, List, [], ◌∷◌, ◌++◌, Some, map, length, get_or, append_assoc, refl, sym, ap, absurd}
+use Rattle.std.proofs.Common.{◌≡◌, ◌∙◌, ◌<◌, ◌||◌, ℕ, zero, suc, Bool, true, false, List, [], ◌∷◌, ◌++◌, Some, map, length, get_or, append_assoc, refl, sym, ap}
 use Rattle.std.proofs.Math.ListN.{set}
 use Rattle.qa_qlog.specs.Frames.{is_in_flight}
 use Rattle.qa_convert.specs.Sending.{AreOf, IsOf, line_of}
@@ -25,12 +25,12 @@ lines_are s g [] os are = ap (map line_of) are
 lines_are s g (p ∷ ps) [] are = absurd are
 lines_are s g (p ∷ ps) (o ∷ os) are = (line_is s g p o are.0, lines_are s g ps os are.1)
 
-pub set_are : (s g : Bool) (ps : List LoggedPacket) (os : List Outgoing) (i : ℕ) (new : Outgoing) → AreOf s g ps os
-    → ((p : LoggedPacket) → IsOf s g p (get_or os i new) → IsOf s g p new) → AreOf s g ps (set os i new)
-set_are s g [] os i new are step = rw are refl
-set_are s g (p ∷ ps) [] i new are step = absurd are
-set_are s g (p ∷ ps) (o ∷ os) 0 new are step = (step p are.0, are.1)
-set_are s g (p ∷ ps) (o ∷ os) (suc i) new are step = (are.0, set_are s g ps os i new are.1 step)
+pub set_are : (s g : Bool) (ps : List LoggedPacket) (os : List Outgoing) (i : ℕ) (d new : Outgoing) → AreOf s g ps os
+    → ((p : LoggedPacket) → IsOf s g p (get_or os i d) → IsOf s g p new) → AreOf s g ps (set os i new)
+set_are s g [] os i d new are step = rw are refl
+set_are s g (p ∷ ps) [] i d new are step = absurd are
+set_are s g (p ∷ ps) (o ∷ os) zero d new are step = (step p are.0, are.1)
+set_are s g (p ∷ ps) (o ∷ os) (suc i) d new are step = (are.0, set_are s g ps os i d new are.1 step)
 
 pub more_sent : (t : Told) (ls more : List SentLine) → with_sent (with_sent t ls) more ≡ with_sent t (ls ++ more)
 more_sent t ls more = ap (λ (all : List SentLine). record t { sent = all }) (append_assoc t.sent ls more)

@@ -274,12 +274,28 @@ impl Conversion {
         }
         let mut before = u64::try_from(self.writing.flights.bytes()).unwrap_or(u64::MAX);
         for (place, level) in order.iter().zip(levels.iter()) {
-            if let Some(packet) = packets.get_mut(*place) {
-                self.settle_size(packet, level.saturating_sub(before), by_growth)?;
-            }
+            self.settle_at(packets, *place, level.saturating_sub(before), by_growth)?;
             before = *level;
         }
         Ok(())
+    }
+
+    /// Takes a growth for the size of the packet at a place, if that is asked for and is likely.
+    fn settle_at(
+        &mut self,
+        packets: &mut Vec<Outgoing>,
+        place: usize,
+        growth: u64,
+        by_growth: bool,
+    ) -> Result<(), AllocError>
+        ensures are { OnOk result ((ps : List APacket) → AreOf true by_growth ps packets.old.items
+            → AreOf true by_growth ps packets.new.items) }
+        ensures told { OnOk result (told_in self.new.writing ≡ told_in self.old.writing) }
+    {
+        let Some(packet) = packets.get_mut(place) else {
+            return Ok(());
+        };
+        self.settle_size(packet, growth, by_growth)
     }
 
     /// Takes a growth for the size of a packet, if that is asked for and is likely.
@@ -314,15 +330,33 @@ impl Conversion {
         let mut before: Option<(Space, u64)> = None;
         for packet in packets.iter_mut() {
             let size = packet.size.get();
-            if let Some((space, least)) = before {
-                if space != packet.packet.space && least < size {
-                    if let Some(added) = PacketSize::new(size - least) {
-                        packet.size = added;
-                        self.writing.guess(Guess::SizeByGrowth)?;
-                    }
-                }
-            }
+            self.settle_added(packet, before)?;
             before = Some((packet.packet.space, size));
+        }
+        Ok(())
+    }
+
+    /// Takes the size of a packet for that of the datagram so far, if one of another space and of a
+    /// smaller size is before it.
+    fn settle_added(
+        &mut self,
+        packet: &mut Outgoing,
+        before: Option<(Space, u64)>,
+    ) -> Result<(), AllocError>
+        ensures is { OnOk result ((p : APacket) → IsOf true true p packet.old
+            → IsOf true true p packet.new) }
+        ensures told { OnOk result (told_in self.new.writing ≡ told_in self.old.writing) }
+    {
+        let size = packet.size.get();
+        let Some((space, least)) = before else {
+            return Ok(());
+        };
+        if space == packet.packet.space || size <= least {
+            return Ok(());
+        }
+        if let Some(added) = PacketSize::new(size - least) {
+            packet.size = added;
+            self.writing.guess(Guess::SizeByGrowth)?;
         }
         Ok(())
     }
