@@ -1,5 +1,5 @@
 -- Lines of packets that were sent.
-use Rattle.std.proofs.Common.{◌≡◌, ◌∙◌, ◌<◌, ◌||◌, ℕ, zero, suc, Bool, true, false, List, [], ◌∷◌, ◌++◌, Some, map, length, get_or, append_assoc, refl, sym, ap}
+use Rattle.std.proofs.Common.{◌≡◌, ◌∙◌, ◌<◌, ◌||◌, ℕ, zero, suc, Bool, true, false, List, [], ◌∷◌, ◌++◌, Some, map, length, get_or, append-nil, append_assoc, refl, sym, ap}
 use Rattle.std.proofs.Math.ListN.{set}
 use Rattle.qa_qlog.specs.Frames.{is_in_flight}
 use Rattle.qa_convert.specs.Sending.{AreOf, IsOf, line_of}
@@ -34,3 +34,6 @@ set_are s g (p ∷ ps) (o ∷ os) (suc i) d new are step = (are.0, set_are s g p
 
 pub more_sent : (t : Told) (ls more : List SentLine) → with_sent (with_sent t ls) more ≡ with_sent t (ls ++ more)
 more_sent t ls more = ap (λ (all : List SentLine). record t { sent = all }) (append_assoc t.sent ls more)
+
+pub none_sent : (t : Told) → t ≡ with_sent t []
+none_sent t = ap (λ (all : List SentLine). record t { sent = all }) (sym (append-nil t.sent))
