@@ -10,6 +10,7 @@ pub mod Opened
 pub mod Ordered
 pub mod Passed
 pub mod PassedOver
+pub mod Sent
 pub mod Spliced
 pub mod Texts
 pub mod Traces

@@ -1,7 +1,12 @@
 -- Lines of events, one after another.
-use Rattle.std.proofs.Common.{◌≡◌, ◌∙◌, ℕ, List, [], ◌∷◌, ◌++◌, append-nil, append_assoc, refl, sym, ap}
-use Rattle.std.specs.List.{AllByRecursion}
-use Rattle.qa_convert.specs.OwnKeys.{AreEventLines, IsWrittenEvent, Noted, noted, texts_of}
+use Rattle.std.proofs.Common.{◌≡◌, ◌∙◌, ℕ, List, [], ◌∷◌, ◌++◌, Ok, Result, map, append-nil, append_assoc, refl, sym, ap}
+use Rattle.std.proofs.lemmas.List.Sums.{fold-append}
+use Rattle.std.specs.List.{AllByRecursion, fold}
+use Rattle.qa_convert.proofs.OneLine.{texts_read}
+use Rattle.qa_convert.specs.OwnKeys.{AreEventLines, IsWritten, IsWrittenEvent, Noted, noted, texts_of}
+use Rattle.qa_convert.specs.Telling.{Told, nothing, told, with_line}
+use Rattle.qa_format.specs.declared.fault.Fault.{Fault}
+use Rattle.qa_format.specs.declared.line.Line.{Line}
 use Rattle.qa_format.specs.format.Lines.{ended, with_lf}
 
 all_and : (ns : List Noted) (n : Noted) → AllByRecursion IsWrittenEvent ns → IsWrittenEvent n → AllByRecursion IsWrittenEvent (ns ++ n ∷ [])
@@ -20,3 +25,37 @@ one_more bytes n are one =
 
 pub none : AreEventLines []
 none = ([], tt, refl)
+
+-- ---- what a reader reads of them
+
+are_written : (ns : List Noted) → AllByRecursion IsWrittenEvent ns → AllByRecursion IsWritten ns
+are_written [] all = tt
+are_written (n ∷ ns) all = (all.0.1, are_written ns all.1)
+
+said : Noted → Result Line Fault
+said n = Ok n.0
+
+told_of_lines : (ns : List Noted) → AllByRecursion IsWrittenEvent ns → told (ended (texts_of ns)) ≡ fold with_line nothing (map said ns)
+unfolding told said
+told_of_lines ns all = ap (fold with_line nothing) (texts_read ns (are_written ns all))
+
+map_and : (ns : List Noted) (n : Noted) → map said (ns ++ n ∷ []) ≡ map said ns ++ said n ∷ []
+map_and [] n = refl
+map_and (m ∷ ns) n = ap (λ rs. said m ∷ rs) (map_and ns n)
+
+told_and : (ns : List Noted) (n : Noted) → AllByRecursion IsWrittenEvent ns → IsWrittenEvent n
+    → told (ended (texts_of (ns ++ n ∷ []))) ≡ with_line (told (ended (texts_of ns))) (said n)
+told_and ns n all one =
+    told_of_lines (ns ++ n ∷ []) (all_and ns n all one)
+    ∙ ap (fold with_line nothing) (map_and ns n)
+    ∙ fold-append with_line nothing (map said ns) (said n ∷ [])
+    ∙ ap (λ t. with_line t (said n)) (sym (told_of_lines ns all))
+
+-- one line more tells what it says
+pub one_more_told : (bytes : List ℕ) (n : Noted) → AreEventLines bytes → IsWrittenEvent n
+    → told (bytes ++ with_lf (noted n.0 n.1)) ≡ with_line {Fault = Fault} (told bytes) (Ok n.0)
+unfolding said
+one_more_told bytes n are one =
+    ap told (ap (λ bs. bs ++ with_lf (noted n.0 n.1)) are.2 ∙ sym (ended_and are.0 n))
+    ∙ told_and are.0 n are.1 one
+    ∙ ap (λ bs. with_line {Fault = Fault} (told bs) (Ok n.0)) (sym are.2)

@@ -11,3 +11,5 @@ pub mod Passing
 pub mod Places
 pub mod Rounding
 pub mod Said
+pub mod Sending
+pub mod Telling

@@ -1,4 +1,7 @@
 //! The second reading of a log: the lines of its events.
+ghost use Rattle.std.specs.Prelude.{◌≡◌, OnOk};
+ghost use Rattle.qa_convert.specs.Telling.{Writes, told_in};
+
 use crate::dialects::{Absent, Dialect, Limited};
 use crate::event::{LoggedEvent, Said};
 use crate::groups::{About, Group};
@@ -145,7 +148,11 @@ impl Conversion {
     }
 
     /// Writes the lines of a group.
-    pub(crate) fn write(&mut self, group: Group) -> Result<(), NoLine> {
+    pub(crate) fn write(&mut self, group: Group) -> Result<(), NoLine>
+        ensures { OnOk result (Writes self.old.known.settles_sizes
+            self.old.terms.dialect.sizes_by_growth group.about (told_in self.old.writing)
+            (told_in self.new.writing)) }
+    {
         let Group { about, beside } = group;
         match about {
             About::Sent(packets) => self.on_sent(packets, &beside),
@@ -165,7 +172,9 @@ impl Conversion {
     }
 
     /// Writes what an event says that is of no group.
-    fn on_other(&mut self, event: &LoggedEvent) -> Result<(), NoLine> {
+    fn on_other(&mut self, event: &LoggedEvent) -> Result<(), NoLine>
+        ensures told { OnOk result (told_in self.new.writing ≡ told_in self.old.writing) }
+    {
         match &event.said {
             Said::KeysCame(space) => self.keys.on_keys_came(&mut self.writing, event.at, *space),
             Said::KeysGone(space) => self.keys.on_keys_gone(&mut self.writing, event.at, *space),
@@ -186,7 +195,9 @@ impl Conversion {
     ///
     /// A report of the count alone says nothing of the rest; one of anything else, that the rest is
     /// as it was.
-    pub(crate) fn take_beside(&mut self, beside: &[LoggedEvent]) -> bool {
+    pub(crate) fn take_beside(&mut self, beside: &[LoggedEvent]) -> bool
+        ensures writing { self.new.writing ≡ self.old.writing }
+    {
         let window = self.values.bytes.window;
         let mut is_report = false;
         for event in beside {
@@ -197,7 +208,9 @@ impl Conversion {
     }
 
     /// Takes what an event says; whether it is a report of more than a count of probe timeouts.
-    fn take(&mut self, event: &LoggedEvent) -> bool {
+    fn take(&mut self, event: &LoggedEvent) -> bool
+        ensures writing { self.new.writing ≡ self.old.writing }
+    {
         match &event.said {
             Said::State(is_app_limited) => {
                 self.is_app_limited = *is_app_limited;
@@ -222,7 +235,9 @@ impl Conversion {
     }
 
     /// Sees whether there was a sample, and whether the window fell.
-    fn see_window(&mut self, before: Option<u64>) {
+    fn see_window(&mut self, before: Option<u64>)
+        ensures writing { self.new.writing ≡ self.old.writing }
+    {
         if self.values.rtts.min.unwrap_or(0) != 0 {
             self.has_sample = true;
         }
@@ -234,14 +249,18 @@ impl Conversion {
     }
 
     /// Bytes in flight that are left out although some left are 0, if 0 is left out.
-    pub(crate) fn take_zero(&mut self) {
+    pub(crate) fn take_zero(&mut self)
+        ensures writing { self.new.writing ≡ self.old.writing }
+    {
         if self.terms.dialect.absent == Absent::SameOrZero {
             self.values = self.values.with_zero();
         }
     }
 
     /// A report of all values that are known. Before a sample a log says 0, or nothing.
-    pub(crate) fn report(&mut self, time: u64) -> Result<(), NoLine> {
+    pub(crate) fn report(&mut self, time: u64) -> Result<(), NoLine>
+        ensures told { OnOk result (told_in self.new.writing ≡ told_in self.old.writing) }
+    {
         let known = if self.has_sample {
             self.values
         } else {
@@ -257,7 +276,9 @@ impl Conversion {
     /// A report of the window alone if it is another than the one that was told.
     ///
     /// A log may tell of a change only behind the next packet, which is judged by it.
-    pub(crate) fn tell_window(&mut self, time: u64) -> Result<(), NoLine> {
+    pub(crate) fn tell_window(&mut self, time: u64) -> Result<(), NoLine>
+        ensures told { OnOk result (told_in self.new.writing ≡ told_in self.old.writing) }
+    {
         let Some(window) = self.values.bytes.window else {
             return Ok(());
         };
@@ -300,7 +321,9 @@ impl Conversion {
     }
 
     /// Whether the sender had not used its window, by that before an acknowledgment.
-    pub(crate) fn is_limited(&mut self, before: Option<u64>) -> Result<bool, AllocError> {
+    pub(crate) fn is_limited(&mut self, before: Option<u64>) -> Result<bool, AllocError>
+        ensures told { OnOk result (told_in self.new.writing ≡ told_in self.old.writing) }
+    {
         match self.terms.dialect.limited {
             Limited::ByState => Ok(self.is_app_limited),
             Limited::Never => Ok(false),
@@ -309,7 +332,9 @@ impl Conversion {
     }
 
     /// Whether an acknowledgment left the window as it was.
-    fn is_limited_by_window(&mut self, before: Option<u64>) -> Result<bool, AllocError> {
+    fn is_limited_by_window(&mut self, before: Option<u64>) -> Result<bool, AllocError>
+        ensures told { OnOk result (told_in self.new.writing ≡ told_in self.old.writing) }
+    {
         if before.is_none() || self.values.bytes.window != before {
             return Ok(false);
         }

@@ -4,6 +4,9 @@
 //! and the Handshake keys when HANDSHAKE_DONE comes (RFC 9001, section 4.9). A server drops them
 //! with the first Handshake packet that comes, and at the end of the handshake, each at the event
 //! behind which the reported bytes in flight have lost those of the space.
+ghost use Rattle.std.specs.Prelude.{◌≡◌, OnOk};
+ghost use Rattle.qa_convert.specs.Telling.{told_in};
+
 use crate::event::At;
 use crate::guess::Guess;
 use crate::packet::LoggedPacket;
@@ -85,7 +88,9 @@ impl Keys {
     }
 
     /// The Handshake keys are there.
-    pub(crate) fn take_keys(&mut self, writing: &mut Writing, at: At) -> Result<(), NoLine> {
+    pub(crate) fn take_keys(&mut self, writing: &mut Writing, at: At) -> Result<(), NoLine>
+        ensures told { OnOk result (told_in writing.new ≡ told_in writing.old) }
+    {
         if self.has_keys {
             return Ok(());
         }
@@ -97,7 +102,9 @@ impl Keys {
     }
 
     /// The handshake is confirmed.
-    fn confirm(&mut self, writing: &mut Writing, at: At) -> Result<(), NoLine> {
+    fn confirm(&mut self, writing: &mut Writing, at: At) -> Result<(), NoLine>
+        ensures told { OnOk result (told_in writing.new ≡ told_in writing.old) }
+    {
         if self.is_confirmed {
             return Ok(());
         }
@@ -109,7 +116,9 @@ impl Keys {
     }
 
     /// The Initial keys are gone.
-    pub(crate) fn discard_initial(&mut self, writing: &mut Writing, at: At) -> Result<(), NoLine> {
+    pub(crate) fn discard_initial(&mut self, writing: &mut Writing, at: At) -> Result<(), NoLine>
+        ensures told { OnOk result (told_in writing.new ≡ told_in writing.old) }
+    {
         if self.initial_is_gone {
             return Ok(());
         }
@@ -128,7 +137,9 @@ impl Keys {
     }
 
     /// The Handshake keys are gone, and the handshake is confirmed.
-    fn discard_handshake(&mut self, writing: &mut Writing, at: At) -> Result<(), NoLine> {
+    fn discard_handshake(&mut self, writing: &mut Writing, at: At) -> Result<(), NoLine>
+        ensures told { OnOk result (told_in writing.new ≡ told_in writing.old) }
+    {
         if self.handshake_is_gone {
             return Ok(());
         }
@@ -152,7 +163,9 @@ impl Keys {
         writing: &mut Writing,
         at: At,
         space: Option<Space>,
-    ) -> Result<(), NoLine> {
+    ) -> Result<(), NoLine>
+        ensures told { OnOk result (told_in writing.new ≡ told_in writing.old) }
+    {
         if space == Some(Space::Handshake) {
             self.take_keys(writing, at)
         } else {
@@ -166,7 +179,9 @@ impl Keys {
         writing: &mut Writing,
         at: At,
         space: Option<Space>,
-    ) -> Result<(), NoLine> {
+    ) -> Result<(), NoLine>
+        ensures told { OnOk result (told_in writing.new ≡ told_in writing.old) }
+    {
         match space {
             Some(Space::Initial) => {
                 if self.is_client && !self.has_sent {
@@ -188,7 +203,9 @@ impl Keys {
         at: At,
         reported: Option<u64>,
         change: Change,
-    ) -> Result<(), NoLine> {
+    ) -> Result<(), NoLine>
+        ensures told { OnOk result (told_in writing.new ≡ told_in writing.old) }
+    {
         if self.initial_is_pending {
             if !self.is_shown(writing, Space::Initial, reported, change) {
                 return Ok(());
@@ -248,7 +265,9 @@ impl Keys {
         at: At,
         packet: &SentPacket<'_>,
         reported: Option<u64>,
-    ) -> Result<bool, NoLine> {
+    ) -> Result<bool, NoLine>
+        ensures told { OnOk result (told_in writing.new ≡ told_in writing.old) }
+    {
         let mut is_late = false;
         let is_handshake = packet.packet.space == Space::Handshake;
         if is_handshake && self.is_client && !self.initial_is_gone {
@@ -283,7 +302,9 @@ impl Keys {
     }
 
     /// A client took in HANDSHAKE_DONE.
-    pub(crate) fn on_done(&mut self, writing: &mut Writing, at: At) -> Result<(), NoLine> {
+    pub(crate) fn on_done(&mut self, writing: &mut Writing, at: At) -> Result<(), NoLine>
+        ensures told { OnOk result (told_in writing.new ≡ told_in writing.old) }
+    {
         if self.is_client && self.handshake_is_untold {
             self.discard_handshake(writing, at)?;
         }

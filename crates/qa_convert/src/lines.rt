@@ -1,5 +1,6 @@
 //! The lines of a trace: that of its header, and those of events, which a reader of traces reads as
 //! what they say.
+ghost use Rattle.qa_convert.specs.Telling.{told, with_event};
 ghost use Rattle.std.specs.Prelude.{◌≡◌, ◌++◌, ◌∷◌, [], OnErr, OnOk, IfOk, true};
 ghost use Rattle.qa_base.specs.values.Events.{fits};
 ghost use Rattle.qa_convert.specs.OwnKeys.{AreEventLines, AreOwn, IsHeaderLine, noted};
@@ -59,6 +60,7 @@ impl EventLines {
         ensures ok { OnOk result (self.new ≡ self.old
             ++ (noted (lines.Event event) (members_view own.entries) ++ 10 ∷ [])) }
         ensures err { OnErr result (self.new ≡ self.old) }
+        ensures told { OnOk result (told self.new ≡ with_event (told self.old) event) }
     {
         self.next.clear();
         push_noted(alloc, &Line::Event(event), own, &mut self.next)?;

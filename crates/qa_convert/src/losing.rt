@@ -1,4 +1,7 @@
 //! Losses that are declared, and the timers that find them.
+ghost use Rattle.std.specs.Prelude.{◌≡◌, OnOk};
+ghost use Rattle.qa_convert.specs.Telling.{told_in};
+
 use crate::conversion::{Conversion, LATE_BY_PROGRAM, latest_of};
 use crate::event::{At, Expiry, LoggedEvent, LostPacket, Said};
 use crate::groups::LostAt;
@@ -19,7 +22,12 @@ impl Conversion {
         &mut self,
         losses: Vec<LostAt>,
         beside: Vec<LoggedEvent>,
-    ) -> Result<(), NoLine> {
+    ) -> Result<(), NoLine>
+        ensures sent { OnOk result ((told_in self.new.writing).sent
+            ≡ (told_in self.old.writing).sent) }
+        ensures acks { OnOk result ((told_in self.new.writing).acks
+            ≡ (told_in self.old.writing).acks) }
+    {
         let events = joined(self.writing.alloc, losses, beside)?;
         if self.known.logs_timers {
             return self.detected(&events);
@@ -28,7 +36,12 @@ impl Conversion {
     }
 
     /// Losses, with what is said among them, by the times at which they were found.
-    pub(crate) fn detections(&mut self, events: &[LoggedEvent]) -> Result<(), NoLine> {
+    pub(crate) fn detections(&mut self, events: &[LoggedEvent]) -> Result<(), NoLine>
+        ensures sent { OnOk result ((told_in self.new.writing).sent
+            ≡ (told_in self.old.writing).sent) }
+        ensures acks { OnOk result ((told_in self.new.writing).acks
+            ≡ (told_in self.old.writing).acks) }
+    {
         let gap = self.known.gap;
         let mut begun = 0;
         let mut last: Option<u64> = None;
@@ -52,7 +65,12 @@ impl Conversion {
     }
 
     /// Losses that were found at one time, with what is said among them.
-    fn detected(&mut self, events: &[LoggedEvent]) -> Result<(), NoLine> {
+    fn detected(&mut self, events: &[LoggedEvent]) -> Result<(), NoLine>
+        ensures sent { OnOk result ((told_in self.new.writing).sent
+            ≡ (told_in self.old.writing).sent) }
+        ensures acks { OnOk result ((told_in self.new.writing).acks
+            ≡ (told_in self.old.writing).acks) }
+    {
         let Some(first) = events.first() else {
             return Ok(());
         };
@@ -71,7 +89,12 @@ impl Conversion {
         at: At,
         losses: &[LostAt],
         beside: &[LoggedEvent],
-    ) -> Result<(), NoLine> {
+    ) -> Result<(), NoLine>
+        ensures sent { OnOk result ((told_in self.new.writing).sent
+            ≡ (told_in self.old.writing).sent) }
+        ensures acks { OnOk result ((told_in self.new.writing).acks
+            ≡ (told_in self.old.writing).acks) }
+    {
         match self.first_in_flight(losses) {
             Some(first) => self.show(first, losses)?,
             None => {}
@@ -80,7 +103,9 @@ impl Conversion {
     }
 
     /// Writes the timer that found losses, if one can have.
-    fn show(&mut self, first: LostAt, losses: &[LostAt]) -> Result<(), NoLine> {
+    fn show(&mut self, first: LostAt, losses: &[LostAt]) -> Result<(), NoLine>
+        ensures told { OnOk result (told_in self.new.writing ≡ told_in self.old.writing) }
+    {
         let LostAt { at, lost } = first;
         let largest = self.largest.of(lost.space).unwrap_or(0);
         if self.known.logs_timers || largest <= lost.number.get() {
@@ -107,7 +132,12 @@ impl Conversion {
         at: At,
         expiry: Expiry,
         beside: &[LoggedEvent],
-    ) -> Result<(), NoLine> {
+    ) -> Result<(), NoLine>
+        ensures sent { OnOk result ((told_in self.new.writing).sent
+            ≡ (told_in self.old.writing).sent) }
+        ensures acks { OnOk result ((told_in self.new.writing).acks
+            ≡ (told_in self.old.writing).acks) }
+    {
         let losses = losses_in(self.writing.alloc, beside)?;
         let is_alone = self.first_in_flight(&losses).is_none();
         let has_losses = beside.iter().any(|event| is_loss(event));
@@ -139,14 +169,18 @@ impl Conversion {
         expiry: Expiry,
         kind: TimerKind,
         losses: &[LostAt],
-    ) -> Result<(), NoLine> {
+    ) -> Result<(), NoLine>
+        ensures told { OnOk result (told_in self.new.writing ≡ told_in self.old.writing) }
+    {
         let found = self.see_first(losses);
         let space = self.space_of_timer(expiry, kind, found)?;
         self.write_timer(at, kind, space, at.time)
     }
 
     /// Sees how old the first packet in flight is that a loss timer found; its space.
-    fn see_first(&mut self, losses: &[LostAt]) -> Option<Space> {
+    fn see_first(&mut self, losses: &[LostAt]) -> Option<Space>
+        ensures writing { self.new.writing ≡ self.old.writing }
+    {
         for it in losses {
             if !self.writing.has_bare(it.lost.space, it.lost.number.get()) {
                 self.see_age(it.at.time, it.lost);
@@ -157,7 +191,9 @@ impl Conversion {
     }
 
     /// Sees how old the packet is that a loss timer found at a time.
-    fn see_age(&mut self, time: u64, lost: LostPacket) {
+    fn see_age(&mut self, time: u64, lost: LostPacket)
+        ensures writing { self.new.writing ≡ self.old.writing }
+    {
         let rtt = u128::from(self.values.greater_rtt());
         let sent = self.time_of(lost.space, lost.number.get());
         if rtt == 0 || sent == 0 {
@@ -177,7 +213,9 @@ impl Conversion {
         expiry: Expiry,
         kind: TimerKind,
         found: Option<Space>,
-    ) -> Result<Space, AllocError> {
+    ) -> Result<Space, AllocError>
+        ensures told { OnOk result (told_in self.new.writing ≡ told_in self.old.writing) }
+    {
         if let Some(space) = expiry.space {
             return Ok(space);
         }
@@ -194,7 +232,12 @@ impl Conversion {
         at: At,
         losses: &[LostAt],
         beside: &[LoggedEvent],
-    ) -> Result<(), NoLine> {
+    ) -> Result<(), NoLine>
+        ensures sent { OnOk result ((told_in self.new.writing).sent
+            ≡ (told_in self.old.writing).sent) }
+        ensures acks { OnOk result ((told_in self.new.writing).acks
+            ≡ (told_in self.old.writing).acks) }
+    {
         self.write_lost(at.time, losses)?;
         if self.take_beside(beside) {
             self.report(latest_of(0, beside))?;
@@ -203,7 +246,12 @@ impl Conversion {
     }
 
     /// Writes the line of the losses of each space, at a time.
-    pub(crate) fn write_lost(&mut self, time: u64, losses: &[LostAt]) -> Result<(), NoLine> {
+    pub(crate) fn write_lost(&mut self, time: u64, losses: &[LostAt]) -> Result<(), NoLine>
+        ensures sent { OnOk result ((told_in self.new.writing).sent
+            ≡ (told_in self.old.writing).sent) }
+        ensures acks { OnOk result ((told_in self.new.writing).acks
+            ≡ (told_in self.old.writing).acks) }
+    {
         let kept = self.losses_in_flight(losses)?;
         if !kept.is_empty() {
             self.last_loss = Some(time);
@@ -224,7 +272,9 @@ impl Conversion {
     }
 
     /// The losses but for those of packets that are not in flight.
-    fn losses_in_flight(&mut self, losses: &[LostAt]) -> Result<Vec<LostAt>, AllocError> {
+    fn losses_in_flight(&mut self, losses: &[LostAt]) -> Result<Vec<LostAt>, AllocError>
+        ensures told { OnOk result (told_in self.new.writing ≡ told_in self.old.writing) }
+    {
         let mut kept = Vec::new(self.writing.alloc);
         for it in losses {
             let number = it.lost.number.get();
@@ -246,7 +296,12 @@ impl Conversion {
         nanoseconds: u64,
         space: Space,
         losses: &[LostAt],
-    ) -> Result<(), NoLine> {
+    ) -> Result<(), NoLine>
+        ensures sent { OnOk result ((told_in self.new.writing).sent
+            ≡ (told_in self.old.writing).sent) }
+        ensures acks { OnOk result ((told_in self.new.writing).acks
+            ≡ (told_in self.old.writing).acks) }
+    {
         let numbers = numbers_of(self.writing.alloc, space, losses)?;
         let (Some(first), Some(last)) = (first_of(space, losses), last_of(space, losses)) else {
             return Ok(());

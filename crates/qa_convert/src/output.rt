@@ -1,4 +1,5 @@
 //! The lines of a trace, as they are written one after another.
+ghost use Rattle.qa_convert.specs.Telling.{told, with_event};
 ghost use Rattle.std.specs.Prelude.{◌≡◌, ◌++◌, ◌∷◌, [], OnErr, OnOk, IfOk, true};
 ghost use Rattle.qa_base.specs.values.Events.{fits};
 ghost use Rattle.qa_convert.specs.Outputs.{are_of_line, in_unit, own_members};
@@ -100,6 +101,8 @@ impl Output {
         ensures guesses { OnOk result (self.new.guesses.items ≡ []) }
         ensures unit { self.new.unit ≡ self.old.unit }
         ensures places { self.new.has_places ≡ self.old.has_places }
+        ensures told { OnOk result (told self.new.text
+            ≡ with_event (told self.old.text) event) }
     {
         let own = self.own_keys(first, last)?;
         self.text.push(self.alloc, event, own)?;
@@ -161,6 +164,8 @@ impl Output {
             ≡ self.old.text ++ (noted (lines.Event event) own ++ 10 ∷ []))) }
         ensures unit { self.new.unit ≡ self.old.unit }
         ensures places { self.new.has_places ≡ self.old.has_places }
+        ensures told { OnOk result (told self.new.text
+            ≡ with_event (told self.old.text) event) }
     {
         let own = self.forgotten_keys(place, space, numbers)?;
         self.text.push(self.alloc, event, own)?;

@@ -1,5 +1,6 @@
 //! Packets that come, and what their ACK frames say.
-ghost use Rattle.std.specs.Prelude.{◌≤◌, length};
+ghost use Rattle.std.specs.Prelude.{◌≡◌, ◌≤◌, OnOk, length};
+ghost use Rattle.qa_convert.specs.Telling.{told_in};
 
 use crate::conversion::{Conversion, LATE_BY_PROGRAM};
 use crate::event::{At, LoggedEvent, LostPacket, Said};
@@ -31,7 +32,10 @@ impl Conversion {
         packet: &PacketAt,
         before: Vec<LostAt>,
         beside: &[LoggedEvent],
-    ) -> Result<(), NoLine> {
+    ) -> Result<(), NoLine>
+        ensures sent { OnOk result ((told_in self.new.writing).sent
+            ≡ (told_in self.old.writing).sent) }
+    {
         self.has_come = true;
         let (beside, later) = beside.split_at(self.shown_part(packet, beside));
         let lost = self.lost_before(packet, before, beside)?;
@@ -68,7 +72,12 @@ impl Conversion {
         packet: &PacketAt,
         before: Vec<LostAt>,
         beside: &[LoggedEvent],
-    ) -> Result<Vec<LostAt>, NoLine> {
+    ) -> Result<Vec<LostAt>, NoLine>
+        ensures sent { OnOk result ((told_in self.new.writing).sent
+            ≡ (told_in self.old.writing).sent) }
+        ensures acks { OnOk result ((told_in self.new.writing).acks
+            ≡ (told_in self.old.writing).acks) }
+    {
         let Some(first) = before.first() else {
             return Ok(before);
         };
@@ -86,7 +95,10 @@ impl Conversion {
         packet: &PacketAt,
         held: Values,
         lost: Vec<LostAt>,
-    ) -> Result<(), NoLine> {
+    ) -> Result<(), NoLine>
+        ensures sent { OnOk result ((told_in self.new.writing).sent
+            ≡ (told_in self.old.writing).sent) }
+    {
         if self.keys.awaits_discard() {
             self.settle_received(packet, &lost)?;
         }
@@ -185,7 +197,9 @@ impl Conversion {
     }
 
     /// The discards that are due, by what leaves with an acknowledgment and its losses.
-    fn settle_received(&mut self, packet: &PacketAt, lost: &[LostAt]) -> Result<(), NoLine> {
+    fn settle_received(&mut self, packet: &PacketAt, lost: &[LostAt]) -> Result<(), NoLine>
+        ensures told { OnOk result (told_in self.new.writing ≡ told_in self.old.writing) }
+    {
         let taken = self.leaving(packet, lost)?;
         let level = self.values.bytes.in_flight;
         self.keys.settle(
@@ -229,7 +243,10 @@ impl Conversion {
         ack: &LoggedAck,
         held: Values,
         lost: &[LostAt],
-    ) -> Result<(), NoLine> {
+    ) -> Result<(), NoLine>
+        ensures sent { OnOk result ((told_in self.new.writing).sent
+            ≡ (told_in self.old.writing).sent) }
+    {
         let space = packet.packet.space;
         let Some(top) = top_in(ack) else {
             return Ok(self.writing.omit(Omission::AckOfNothing)?);
@@ -284,7 +301,9 @@ impl Conversion {
         space: Space,
         top: u64,
         answer: Answer<'_>,
-    ) -> Result<(u64, u64), AllocError> {
+    ) -> Result<(u64, u64), AllocError>
+        ensures told { OnOk result (told_in self.new.writing ≡ told_in self.old.writing) }
+    {
         let smoothed = self.values.rtts.smoothed.unwrap_or(0);
         let mut time = at.time;
         if time.saturating_sub(answer.sent) < smoothed {
@@ -310,7 +329,9 @@ impl Conversion {
         space: Space,
         top: u64,
         lost: &[LostAt],
-    ) -> Result<u64, AllocError> {
+    ) -> Result<u64, AllocError>
+        ensures told { OnOk result (told_in self.new.writing ≡ told_in self.old.writing) }
+    {
         let rtt = self.values.greater_rtt();
         let Some(earlier) = at.time.checked_sub(EARLIER) else {
             return Ok(at.time);
@@ -346,7 +367,9 @@ impl Conversion {
         sent: u64,
         delay: u64,
         held: Values,
-    ) -> Result<u64, AllocError> {
+    ) -> Result<u64, AllocError>
+        ensures told { OnOk result (told_in self.new.writing ≡ told_in self.old.writing) }
+    {
         let latest = self.values.rtts.latest.unwrap_or(0);
         let is_new = latest != held.rtts.latest.unwrap_or(0);
         let came = sent.saturating_add(latest);
@@ -381,7 +404,9 @@ impl Conversion {
     }
 
     /// The delay by which a sample was computed, as the reports before and after it show.
-    fn settled_delay(&mut self, latest: u64, delay: u64, held: Values) -> Result<u64, AllocError> {
+    fn settled_delay(&mut self, latest: u64, delay: u64, held: Values) -> Result<u64, AllocError>
+        ensures told { OnOk result (told_in self.new.writing ≡ told_in self.old.writing) }
+    {
         let longest = if self.keys.is_confirmed {
             self.known.max_ack_delay
         } else {

@@ -1,5 +1,9 @@
 //! Packets that are sent, and the probe timeouts that sent them.
-ghost use Rattle.std.specs.Prelude.{◌≡◌, true};
+ghost use Rattle.std.specs.Prelude.{◌≡◌, ◌∷◌, [], ◌||◌, Bool, IfOk, List, OnOk, map, true};
+ghost use Rattle.qa_convert.specs.Sending.{AreOf, IsOf, line_of};
+ghost use Rattle.qa_convert.specs.Telling.{Sends, sized, told_in, with_sent};
+ghost use Rattle.qa_convert.specs.declared.packet.LoggedPacket.{LoggedPacket as APacket};
+ghost use Rattle.qa_qlog.specs.Frames.{is_in_flight};
 
 use crate::conversion::{Conversion, DATAGRAMS_OF_PROBE, LATE_BY_PROGRAM, latest_of};
 use crate::event::{At, LoggedEvent, Said};
@@ -31,7 +35,8 @@ pub(crate) struct Outgoing {
 impl Outgoing {
     /// Whether it counts to the bytes in flight.
     fn is_in_flight(&self) -> bool
-        ensures { self.now.packet.content.is_eliciting ≡ true → result ≡ true }
+        ensures value { result ≡ is_in_flight self.now.packet.content || self.now.is_padded }
+        ensures eliciting { self.now.packet.content.is_eliciting ≡ true → result ≡ true }
     {
         self.packet.content.is_in_flight() || self.is_padded
     }
@@ -46,7 +51,10 @@ impl Outgoing {
     }
 
     /// Takes a growth of the bytes in flight for the size, if that is likely: whether it did.
-    fn grow(&mut self, growth: u64, datagram: u64) -> bool {
+    fn grow(&mut self, growth: u64, datagram: u64) -> bool
+        ensures packet { self.new.packet ≡ self.old.packet }
+        ensures guessed { self.new.is_size_guessed ≡ self.old.is_size_guessed }
+    {
         let most = datagram.max(self.size.get());
         let Some(size) = PacketSize::new(growth) else {
             return false;
@@ -61,7 +69,10 @@ impl Outgoing {
 }
 
 /// Packets with their sizes; those without one, which the first reading refuses, are left out.
-fn with_sizes(alloc: Global, packets: Vec<PacketAt>) -> Result<Vec<Outgoing>, AllocError> {
+fn with_sizes(alloc: Global, packets: Vec<PacketAt>) -> Result<Vec<Outgoing>, AllocError>
+    ensures { IfOk result (λ found. (settles by_growth : Bool)
+        → AreOf settles by_growth (sized packets.items) found.items) }
+{
     let mut found = Vec::new(alloc);
     for it in packets {
         let PacketAt { at, packet } = it;
@@ -85,7 +96,13 @@ impl Conversion {
         &mut self,
         packets: Vec<PacketAt>,
         beside: &[LoggedEvent],
-    ) -> Result<(), NoLine> {
+    ) -> Result<(), NoLine>
+        ensures { OnOk result (Sends self.old.known.settles_sizes
+            self.old.terms.dialect.sizes_by_growth packets.items (told_in self.old.writing)
+            (told_in self.new.writing)) }
+    {
+        let settles = self.known.settles_sizes;
+        let by_growth = self.terms.dialect.sizes_by_growth;
         let mut packets = with_sizes(self.writing.alloc, packets)?;
         let Some(first) = packets.first() else {
             return Ok(());
@@ -99,8 +116,8 @@ impl Conversion {
         } else {
             None
         };
-        if reported.is_some() && self.known.settles_sizes {
-            self.settle_sizes(&mut packets, beside)?;
+        if reported.is_some() && settles {
+            self.settle_sizes(&mut packets, beside, by_growth)?;
         }
         if self.keys.awaits_discard() {
             let added = bytes_in_flight(&packets);
@@ -118,7 +135,10 @@ impl Conversion {
         reported: Option<u64>,
         is_reported: bool,
         beside: &[LoggedEvent],
-    ) -> Result<(), NoLine> {
+    ) -> Result<(), NoLine>
+        ensures { OnOk result (told_in self.new.writing
+            ≡ with_sent (told_in self.old.writing) (map line_of packets.now)) }
+    {
         let mut is_late = false;
         for packet in packets {
             is_late = self.send(packet, reported)? || is_late;
@@ -137,7 +157,10 @@ impl Conversion {
     }
 
     /// Writes the line of a packet; whether the discard of the Initial keys is due behind it.
-    fn send(&mut self, packet: &Outgoing, reported: Option<u64>) -> Result<bool, NoLine> {
+    fn send(&mut self, packet: &Outgoing, reported: Option<u64>) -> Result<bool, NoLine>
+        ensures { OnOk result (told_in self.new.writing
+            ≡ with_sent (told_in self.old.writing) (line_of packet.now ∷ [])) }
+    {
         let seen = packet.seen();
         let is_late = self
             .keys
@@ -148,7 +171,10 @@ impl Conversion {
     }
 
     /// Writes the line of a packet.
-    fn write_sent(&mut self, packet: &Outgoing) -> Result<(), NoLine> {
+    fn write_sent(&mut self, packet: &Outgoing) -> Result<(), NoLine>
+        ensures { OnOk result (told_in self.new.writing
+            ≡ with_sent (told_in self.old.writing) (line_of packet.now ∷ [])) }
+    {
         if packet.is_size_guessed {
             self.writing.guess(Guess::Size)?;
         }
@@ -175,7 +201,9 @@ impl Conversion {
     }
 
     /// Keeps a packet that was sent.
-    fn keep_sent(&mut self, packet: &Outgoing) -> Result<(), AllocError> {
+    fn keep_sent(&mut self, packet: &Outgoing) -> Result<(), AllocError>
+        ensures told { OnOk result (told_in self.new.writing ≡ told_in self.old.writing) }
+    {
         let space = packet.packet.space;
         let number = packet.packet.number.get();
         if packet.is_in_flight() {
@@ -196,7 +224,9 @@ impl Conversion {
 
     /// By what leave a packet of this size is sent: by a probe if one is allowed, else by the
     /// window if it has room, else by the entry into recovery.
-    fn permission(&mut self, size: u64) -> Result<Permission, AllocError> {
+    fn permission(&mut self, size: u64) -> Result<Permission, AllocError>
+        ensures told { OnOk result (told_in self.new.writing ≡ told_in self.old.writing) }
+    {
         let is_first = self.has_fallen;
         self.has_fallen = false;
         if size <= self.probe.bytes {
@@ -227,9 +257,13 @@ impl Conversion {
         &mut self,
         packets: &mut Vec<Outgoing>,
         beside: &[LoggedEvent],
-    ) -> Result<(), NoLine> {
+        by_growth: bool,
+    ) -> Result<(), NoLine>
+        ensures are { OnOk result ((ps : List APacket) → AreOf true by_growth ps packets.old.items
+            → AreOf true by_growth ps packets.new.items) }
+        ensures told { OnOk result (told_in self.new.writing ≡ told_in self.old.writing) }
+    {
         let alloc = self.writing.alloc;
-        let by_growth = self.terms.dialect.sizes_by_growth;
         let order = order_of(alloc, packets, by_growth)?;
         let levels = levels_of(alloc, beside, order.len() == 1)?;
         if order.len() != levels.len() {
@@ -240,17 +274,42 @@ impl Conversion {
         }
         let mut before = u64::try_from(self.writing.flights.bytes()).unwrap_or(u64::MAX);
         for (place, level) in order.iter().zip(levels.iter()) {
-            if let Some(packet) = packets.get_mut(*place) {
-                self.settle_size(packet, level.saturating_sub(before))?;
-            }
+            self.settle_at(packets, *place, level.saturating_sub(before), by_growth)?;
             before = *level;
         }
         Ok(())
     }
 
+    /// Takes a growth for the size of the packet at a place, if that is asked for and is likely.
+    fn settle_at(
+        &mut self,
+        packets: &mut Vec<Outgoing>,
+        place: usize,
+        growth: u64,
+        by_growth: bool,
+    ) -> Result<(), AllocError>
+        ensures are { OnOk result ((ps : List APacket) → AreOf true by_growth ps packets.old.items
+            → AreOf true by_growth ps packets.new.items) }
+        ensures told { OnOk result (told_in self.new.writing ≡ told_in self.old.writing) }
+    {
+        let Some(packet) = packets.get_mut(place) else {
+            return Ok(());
+        };
+        self.settle_size(packet, growth, by_growth)
+    }
+
     /// Takes a growth for the size of a packet, if that is asked for and is likely.
-    fn settle_size(&mut self, packet: &mut Outgoing, growth: u64) -> Result<(), AllocError> {
-        if !self.terms.dialect.sizes_by_growth && !packet.is_size_guessed {
+    fn settle_size(
+        &mut self,
+        packet: &mut Outgoing,
+        growth: u64,
+        by_growth: bool,
+    ) -> Result<(), AllocError>
+        ensures is { OnOk result ((p : APacket) → IsOf true by_growth p packet.old
+            → IsOf true by_growth p packet.new) }
+        ensures told { OnOk result (told_in self.new.writing ≡ told_in self.old.writing) }
+    {
+        if !by_growth && !packet.is_size_guessed {
             return Ok(());
         }
         if packet.grow(growth, self.terms.datagram) {
@@ -263,25 +322,49 @@ impl Conversion {
     }
 
     /// Takes sizes that are those of the datagram so far for what each packet adds.
-    fn settle_datagram(&mut self, packets: &mut Vec<Outgoing>) -> Result<(), AllocError> {
+    fn settle_datagram(&mut self, packets: &mut Vec<Outgoing>) -> Result<(), AllocError>
+        ensures are { OnOk result ((ps : List APacket) → AreOf true true ps packets.old.items
+            → AreOf true true ps packets.new.items) }
+        ensures told { OnOk result (told_in self.new.writing ≡ told_in self.old.writing) }
+    {
         let mut before: Option<(Space, u64)> = None;
-        for packet in packets {
+        for packet in packets.iter_mut() {
             let size = packet.size.get();
-            if let Some((space, least)) = before {
-                if space != packet.packet.space && least < size {
-                    if let Some(added) = PacketSize::new(size - least) {
-                        packet.size = added;
-                        self.writing.guess(Guess::SizeByGrowth)?;
-                    }
-                }
-            }
+            self.settle_added(packet, before)?;
             before = Some((packet.packet.space, size));
         }
         Ok(())
     }
 
+    /// Takes the size of a packet for that of the datagram so far, if one of another space and of a
+    /// smaller size is before it.
+    fn settle_added(
+        &mut self,
+        packet: &mut Outgoing,
+        before: Option<(Space, u64)>,
+    ) -> Result<(), AllocError>
+        ensures is { OnOk result ((p : APacket) → IsOf true true p packet.old
+            → IsOf true true p packet.new) }
+        ensures told { OnOk result (told_in self.new.writing ≡ told_in self.old.writing) }
+    {
+        let size = packet.size.get();
+        let Some((space, least)) = before else {
+            return Ok(());
+        };
+        if space == packet.packet.space || size <= least {
+            return Ok(());
+        }
+        if let Some(added) = PacketSize::new(size - least) {
+            packet.size = added;
+            self.writing.guess(Guess::SizeByGrowth)?;
+        }
+        Ok(())
+    }
+
     /// Probe timeouts that a log without timers shows by its count, or by a packet.
-    fn guess_probes(&mut self, packets: &[Outgoing], beside: &[LoggedEvent]) -> Result<(), NoLine> {
+    fn guess_probes(&mut self, packets: &[Outgoing], beside: &[LoggedEvent]) -> Result<(), NoLine>
+        ensures told { OnOk result (told_in self.new.writing ≡ told_in self.old.writing) }
+    {
         let Some(first) = packets.first() else {
             return Ok(());
         };
@@ -379,7 +462,9 @@ impl Conversion {
     }
 
     /// Probe timeouts by their count.
-    fn probes_by_count(&mut self, at: At, beside: &[LoggedEvent]) -> Result<(), NoLine> {
+    fn probes_by_count(&mut self, at: At, beside: &[LoggedEvent]) -> Result<(), NoLine>
+        ensures told { OnOk result (told_in self.new.writing ≡ told_in self.old.writing) }
+    {
         let Some(count) = count_of(beside) else {
             return Ok(());
         };
@@ -402,7 +487,9 @@ impl Conversion {
         kind: TimerKind,
         space: Space,
         nanoseconds: u64,
-    ) -> Result<(), NoLine> {
+    ) -> Result<(), NoLine>
+        ensures told { OnOk result (told_in self.new.writing ≡ told_in self.old.writing) }
+    {
         let time = self.writing.next_time(nanoseconds)?;
         let event = Event::Timer { time, kind, space };
         self.writing.output.write(event, at.place, at.place)?;
@@ -418,7 +505,9 @@ impl Conversion {
     }
 
     /// Bytes that left with no event: quic-go takes packets out of flight that it probes for.
-    fn forget(&mut self, at: At) -> Result<(), NoLine> {
+    fn forget(&mut self, at: At) -> Result<(), NoLine>
+        ensures told { OnOk result (told_in self.new.writing ≡ told_in self.old.writing) }
+    {
         let Some(level) = self.values.bytes.in_flight else {
             return Ok(());
         };

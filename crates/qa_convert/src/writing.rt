@@ -1,4 +1,7 @@
 //! Lines as they are written: their times, what was guessed, and what is in flight behind them.
+ghost use Rattle.std.specs.Prelude.{◌≡◌, OnOk};
+ghost use Rattle.qa_convert.specs.Telling.{told_in};
+
 use crate::bare::Bare;
 use crate::event::At;
 use crate::flights::{Flights, Forgotten};
@@ -75,13 +78,17 @@ impl Writing {
     }
 
     /// The next line says that this was guessed.
-    pub(crate) fn guess(&mut self, guess: Guess) -> Result<(), AllocError> {
+    pub(crate) fn guess(&mut self, guess: Guess) -> Result<(), AllocError>
+        ensures told { OnOk result (told_in self.new ≡ told_in self.old) }
+    {
         self.notes.guess(guess)?;
         self.output.guess(guess)
     }
 
     /// Counts what is left out.
-    pub(crate) fn omit(&mut self, omission: Omission) -> Result<(), AllocError> {
+    pub(crate) fn omit(&mut self, omission: Omission) -> Result<(), AllocError>
+        ensures told { OnOk result (told_in self.new ≡ told_in self.old) }
+    {
         self.notes.omit(omission, 1)
     }
 
@@ -113,7 +120,9 @@ impl Writing {
     }
 
     /// The time of the next line, which does not go back.
-    pub(crate) fn next_time(&mut self, nanoseconds: u64) -> Result<Ticks, NoLine> {
+    pub(crate) fn next_time(&mut self, nanoseconds: u64) -> Result<Ticks, NoLine>
+        ensures told { OnOk result (told_in self.new ≡ told_in self.old) }
+    {
         let mut time = self.output.in_unit(nanoseconds);
         if time < self.time {
             self.guess(Guess::TimeBack)?;
@@ -127,7 +136,9 @@ impl Writing {
     }
 
     /// A packet was sent that is not in flight.
-    pub(crate) fn add_bare(&mut self, space: Space, number: u64) -> Result<(), AllocError> {
+    pub(crate) fn add_bare(&mut self, space: Space, number: u64) -> Result<(), AllocError>
+        ensures told { OnOk result (told_in self.new ≡ told_in self.old) }
+    {
         self.bare.of_mut(space).add(number)
     }
 
@@ -142,7 +153,9 @@ impl Writing {
         nanoseconds: u64,
         place: Place,
         values: Values,
-    ) -> Result<(), NoLine> {
+    ) -> Result<(), NoLine>
+        ensures told { OnOk result (told_in self.new ≡ told_in self.old) }
+    {
         let time = self.next_time(nanoseconds)?;
         let values = self.in_unit(values);
         self.output
@@ -172,7 +185,9 @@ impl Writing {
     }
 
     /// Bytes that left with no event: a line that only names the packets.
-    pub(crate) fn forget(&mut self, at: At, forgotten: Forgotten) -> Result<(), NoLine> {
+    pub(crate) fn forget(&mut self, at: At, forgotten: Forgotten) -> Result<(), NoLine>
+        ensures told { OnOk result (told_in self.new ≡ told_in self.old) }
+    {
         let time = self.next_time(at.time)?;
         let values = self.in_unit(Values::none());
         let event = Event::Metrics { time, values };
@@ -188,14 +203,18 @@ impl Writing {
     }
 
     /// The line of the Handshake keys.
-    pub(crate) fn keys(&mut self, at: At) -> Result<(), NoLine> {
+    pub(crate) fn keys(&mut self, at: At) -> Result<(), NoLine>
+        ensures told { OnOk result (told_in self.new ≡ told_in self.old) }
+    {
         let time = self.next_time(at.time)?;
         self.output.write(Event::Keys { time }, at.place, at.place)?;
         Ok(())
     }
 
     /// The line of the confirmed handshake.
-    pub(crate) fn confirmed(&mut self, at: At) -> Result<(), NoLine> {
+    pub(crate) fn confirmed(&mut self, at: At) -> Result<(), NoLine>
+        ensures told { OnOk result (told_in self.new ≡ told_in self.old) }
+    {
         let time = self.next_time(at.time)?;
         self.output
             .write(Event::Confirmed { time }, at.place, at.place)?;

@@ -1,0 +1,6 @@
+use Rattle.std.proofs.Common.{◌≡◌}
+use Rattle.qa_convert.specs.Telling.{told_in}
+use Rattle.qa_convert.proofs.conversion.Conversion.write_lost_of.Given as goal
+
+abbrev pub invariant-loop-number : goal.invariant-loop-number
+invariant-loop-number l = told_in l.self.writing ≡ told_in l.initial.self.writing
