@@ -124,7 +124,8 @@ pub record Sends (settles by_growth : Bool) (ps : List PacketAt) (before after :
 
 -- what the lines of a group say
 abbrev pub Writes : Bool → Bool → About → Told → Told → Type 0
-Writes settles by_growth (about.Sent ps) before after = Sends settles by_growth ps.items before after
+Writes settles by_growth (about.Sent ps) before after =
+    Sends settles by_growth ps.items before after
 Writes settles by_growth (about.Received p ls) before after = after.sent ≡ before.sent
 Writes settles by_growth (about.Lost ls) before after =
     (after.sent ≡ before.sent) × (after.acks ≡ before.acks)

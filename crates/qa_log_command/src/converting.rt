@@ -40,7 +40,10 @@ pub fn convert<R: Files, I: Source, O: Sink>(
 }
 
 /// Writes the lines of a trace. Those that were before a fault in the log are written too.
-fn write_lines<F: Read + Drop, O: Sink>(lines: &mut Lines<'_, F>, output: &mut O) -> Result<(), Failure>
+fn write_lines<F: Read + Drop, O: Sink>(
+    lines: &mut Lines<'_, F>,
+    output: &mut O,
+) -> Result<(), Failure>
     ensures { WritesLines (fails_to_write result)
         (O.held output.old, O.write_failures output.old)
         (O.held output.new, O.write_failures output.new) }
