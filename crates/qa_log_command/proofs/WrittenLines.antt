@@ -10,7 +10,7 @@ use Rattle.qa_check.specs.Failures.{failures_after}
 use Rattle.qa_commands.specs.Writes.{Writes}
 use Rattle.qa_convert.specs.OwnKeys.{AreEventLines, IsHeaderLine, IsWritten, IsWrittenEvent, Noted, noted, texts_of}
 use Rattle.qa_format.specs.format.Lines.{ended, with_lf}
-use Rattle.qa_log_command.specs.Failing.{ending_of, is_write, stops_at_write}
+use Rattle.qa_log_command.specs.Failing.{ending_of, fails_to_write, is_write, stops_at_write}
 use Rattle.qa_log_command.specs.Written.{AreLines, Leaves, Stream, WritesLines}
 use Rattle.qa_log_command.specs.declared.ending.Ending.{Ending}
 use Rattle.qa_log_command.specs.declared.ending.Ending.TheVariants as endings
@@ -71,6 +71,12 @@ more_lines failed a b c (front, front_lines, first) (rest, rest_lines, then) =
 pub handed_on : {A : Type 0} (r : Result A Failure) (failure : Failure) → IsErrAnd r (λ f. f ≡ failure) → r ≡ Err failure
 handed_on (Ok a) failure is = absurd is
 handed_on (Err f) failure is = ap Err is
+
+-- whether it fails to write is by the failure that is handed on
+pub fails_as : {A : Type 0} (failed : Bool) (r : Result A Failure) (failure : Failure) → IsErrAnd r (λ f. f ≡ failure) → is_write failure ≡ failed
+    → fails_to_write r ≡ failed
+fails_as failed (Ok a) failure is write = absurd is
+fails_as failed (Err f) failure is write = ap is_write is ∙ write
 
 pub stopped_by : {A : Type 0} (r : Result A Stopped) (failure : Failure) → IsErrAnd r (λ s. s.failure ≡ failure) → is_write failure ≡ false
     → stops_at_write r ≡ false
