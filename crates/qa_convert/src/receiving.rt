@@ -361,13 +361,7 @@ impl Conversion {
     ///
     /// If the sample by the log is longer than the reported one, by more than the delay that may
     /// have been taken off, then the log is late by that.
-    fn arrival(
-        &mut self,
-        time: u64,
-        sent: u64,
-        delay: u64,
-        held: Values,
-    ) -> Result<u64, AllocError>
+    fn arrival(&mut self, time: u64, sent: u64, delay: u64, held: Values) -> Result<u64, AllocError>
         ensures told { OnOk result (told_in self.new.writing ≡ told_in self.old.writing) }
     {
         let latest = self.values.rtts.latest.unwrap_or(0);

@@ -11,10 +11,13 @@ use Rattle.qa_qlog.specs.declared.kinds.NoLog.TheVariants.{OutOfMemory}
 
 pub found : (bytes text : List ℕ) (r : Option ℕ) → FindsNeedle bytes text 0 r → Decides (is_some r) (Has bytes text)
 found bytes text (Some k) finds = (λ is. (k, finds.1), λ has. refl)
-found bytes text None nowhere = (λ is. absurd (false≢true is), λ has.
-    let occurs : OccursAt bytes text has.0 = has.1 in
-    let fits = occurs.fits in
-    absurd (nowhere has.0 (omega arith) (omega (arith, fits)) has.1))
+found bytes text None nowhere = (
+  λ is. absurd (false≢true is),
+  λ has.
+      let occurs : OccursAt bytes text has.0 = has.1 in
+      let fits = occurs.fits in
+      absurd (nowhere has.0 (omega arith) (omega (arith, fits)) has.1),
+)
 
 pub log_by : (bytes : List ℕ) (kind : Kind) (log : Bool) → (Ok kind ≢ Err OutOfMemory → Ok kind ≡ kind_of bytes) → kind ≡ Document → Decides log (HasKeyOfLogs bytes) → Decides log (IsLog bytes)
 log_by bytes kind log value is decides =
