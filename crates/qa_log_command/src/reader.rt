@@ -1,6 +1,6 @@
 //! A reader of the trace of a log.
 
-use crate::failure::{Failure, Stopped};
+use crate::failure::Stopped;
 use crate::lines::Lines;
 use qa_logs::Trace;
 use std::io;
@@ -15,7 +15,7 @@ pub struct TraceReader<'a, F> {
     lines: Lines<'a, F>,
     /// How many bytes of the lines at this point were read.
     passed: usize,
-    failure: Option<Failure>,
+    stopped: Option<Stopped>,
 }
 
 impl<'a, F: Read + Drop> TraceReader<'a, F> {
@@ -24,7 +24,7 @@ impl<'a, F: Read + Drop> TraceReader<'a, F> {
         TraceReader {
             lines,
             passed: 0,
-            failure: None,
+            stopped: None,
         }
     }
 
@@ -34,12 +34,8 @@ impl<'a, F: Read + Drop> TraceReader<'a, F> {
     }
 
     /// Why there is no more of the trace, and how many lines it has.
-    pub fn into_stopped(self) -> Option<Stopped> {
-        let TraceReader { lines, failure, .. } = self;
-        Some(Stopped {
-            failure: failure?,
-            lines: lines.count(),
-        })
+    pub fn stopped(&self) -> Option<&Stopped> {
+        self.stopped.as_ref()
     }
 
     /// What is left of the lines at this point.
@@ -59,14 +55,15 @@ impl<'a, F: Read + Drop> TraceReader<'a, F> {
 
     /// Goes on by one step. Returns false at the end.
     fn advance(&mut self) -> io::Result<bool> {
-        if self.failure.is_some() {
+        if self.stopped.is_some() {
             return Err(io::Error::from(io::ErrorKind::InvalidData));
         }
         self.passed = 0;
         match self.lines.advance() {
             Ok(has_more) => Ok(has_more),
             Err(failure) => {
-                self.failure = Some(failure);
+                let lines = self.lines.count();
+                self.stopped = Some(Stopped { failure, lines });
                 Ok(true)
             }
         }

@@ -1,3 +1,4 @@
 mod Endings
 mod Noted
+mod Traced
 pub mod warnings_lemmas

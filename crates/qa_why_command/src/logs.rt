@@ -2,7 +2,7 @@
 ghost use Rattle.std.specs.Prelude.{◌≡◌, false, Err};
 ghost use Rattle.qa_arguments.specs.why.Asked.{wanted};
 ghost use Rattle.qa_why_command.specs.Ending.{stops};
-ghost use Rattle.qa_why_command.specs.Logs.{TellsLog, TellsTraceOf};
+ghost use Rattle.qa_why_command.specs.Logs.{EndsLog, TellsLog, TellsTraceOf};
 ghost use Rattle.qa_why_command.specs.Streams.{Input, streams};
 
 use crate::ending::Failure;
@@ -71,14 +71,27 @@ fn tell_lines<F: Read + Drop, O: Sink, E: Sink>(
 {
     let mut reader = Metered::new(TraceReader::new(lines));
     let told = tell_read(alloc, inquiry, name, &mut reader, output, error);
-    let reader = reader.into_inner();
+    end(alloc, name, told, &reader.into_inner(), error)
+}
+
+/// How the log of this name ends, by what came of its trace. What of the log is not in the trace is
+/// told, or why there is no more of it.
+fn end<F: Read + Drop, E: Sink>(
+    alloc: Global,
+    name: &str,
+    told: Result<Outcome, AuditFault>,
+    reader: &TraceReader<'_, F>,
+    error: &mut E,
+) -> Result<Outcome, Failure>
+    ensures { EndsLog told result }
+{
     match told {
         Ok(outcome) => match tell_lacks(alloc, name, reader.trace(), error) {
             Ok(()) => Ok(outcome),
             Err(_) => Err(Failure::Audit(AuditFault::OutOfMemory)),
         },
-        Err(AuditFault::Read) => match reader.into_stopped() {
-            Some(stopped) => Err(tell_stopped(alloc, name, &stopped, error)),
+        Err(AuditFault::Read) => match reader.stopped() {
+            Some(stopped) => Err(tell_stopped(alloc, name, stopped, error)),
             None => Err(Failure::Audit(AuditFault::Read)),
         },
         Err(fault) => Err(Failure::Audit(fault)),
