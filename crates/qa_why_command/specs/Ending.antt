@@ -4,6 +4,7 @@ use Rattle.qa_check.specs.declared.auditing.AuditFault.{AuditFault}
 use Rattle.qa_check.specs.declared.auditing.AuditFault.TheVariants as faults
 use Rattle.qa_check.specs.declared.auditing.Outcome.{Outcome}
 use Rattle.qa_check.specs.declared.auditing.Outcome.TheVariants.{Accepted, Refused, Unreadable}
+use Rattle.qa_commands.specs.Checking.{Then}
 use Rattle.qa_commands.specs.Names.{line_with}
 use Rattle.qa_why_command.specs.Streams.{Stream, WasTold}
 use Rattle.qa_why_command.specs.declared.ending.Failure.{Failure}
@@ -47,11 +48,16 @@ message_of Log = []
 abbrev pub failure_line : Failure → List ℕ → List ℕ
 failure_line failure name = line_with (message_of failure) name
 
--- the line of a failure was told on this stream, if it has one
+-- whether the line of a failure is yet to be told
+abbrev pub has_line : Failure → Bool
+has_line Open = true
+has_line (Audit fault) = true
+has_line Log = false
+
+-- the line of a failure was told on this stream, if it was not before
 abbrev pub TellsLine : Failure → List ℕ → Stream → Stream → Type 0
-TellsLine Open name old new = WasTold old new (failure_line Open name)
-TellsLine (Audit fault) name old new = WasTold old new (failure_line (Audit fault) name)
-TellsLine Log name old new = new ≡ old
+TellsLine failure name old new =
+    Then (has_line failure) (WasTold old new (failure_line failure name)) (new ≡ old)
 
 -- where it failed, the line of that failure was told on this stream, and else nothing
 abbrev pub TellsFailure : {A : Type 0} → Result A Failure → List ℕ → Stream → Stream → Type 0

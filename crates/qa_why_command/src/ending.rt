@@ -24,10 +24,19 @@ impl Failure {
         ensures { TellsLine self name.now (E.held error.old, E.write_failures error.old)
             (E.held error.new, E.write_failures error.new) }
     {
-        if matches!(self, Failure::Log) {
-            return;
+        if self.has_line() {
+            let _begun = write_line(self.message(), name, error);
         }
-        let _begun = write_line(self.message(), name, error);
+    }
+
+    /// Whether its line is yet to be written.
+    fn has_line(self) -> bool
+        ensures { result ≡ defined.has_line self }
+    {
+        match self {
+            Failure::Open | Failure::Audit(_) => true,
+            Failure::Log => false,
+        }
     }
 
     /// What the line begins with, if there is one.
