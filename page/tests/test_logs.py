@@ -619,6 +619,15 @@ class Tables(InFolder):
         self.assertIn(told, self.table())
         self.run_command("--convert=--connection 2")
         self.assertIn("it has 1 connections or paths, and no number 2", self.table())
+        told = self.run_command("--convert=--nothing", status=64)
+        self.assertTrue(told.startswith("qaudit-matrix: qlog-to-trace --nothing: "), told)
+
+    def test_without_a_converter(self) -> None:
+        """Traces are audited all the same."""
+        self.run_command("--converter", "/nowhere", status=3)
+        found = {key: it["kind"] for key, it in self.results().items()}
+        self.assertEqual({key for key, kind in found.items() if kind == "accepted"}, {"trace"})
+        self.assertIn("there is no program /nowhere; --converter names one", self.table())
 
 
 class Ends(unittest.TestCase):
