@@ -174,7 +174,8 @@ conformance-malicious:
 	conformance/malicious $(program)
 	conformance/malicious --few $(program_by_one_byte)
 	conformance/malicious --why $(program_why) $(program)
-	QAUDIT='$(abspath $(program))' QAUDIT_WHY='$(abspath $(program_why))' python3 conformance/test_terminals.py
+	QAUDIT='$(abspath $(program))' QAUDIT_WHY='$(abspath $(program_why))' QLOG_TO_TRACE='$(abspath $(program_of_logs))' \
+		python3 conformance/test_terminals.py
 
 conformance-large:
 	conformance/large $(program)

@@ -22,7 +22,13 @@ from runners import FOLDER, Result, Results
 TOP = FOLDER.parent
 TRACE = FOLDER / "traces" / "window-full.trace"
 LOG = FOLDER / "real" / "traces" / "ngtcp2-past-window.qlog"
-TRACE_NAME, LOG_NAME = "a.trace", "a.qlog"
+NETLOG = FOLDER / "real" / "traces" / "chromium-156-loss.netlog"
+TRACE_NAME, LOG_NAME, NETLOG_NAME = "a.trace", "a.qlog", "a.netlog"
+# By the name of an input, one of its kind that takes more memory than there is, and what it is.
+LARGE = {
+    LOG_NAME: ("large.qlog", '{{"title":[{}],"traces":[]}}'),
+    NETLOG_NAME: ("large.netlog", '{{"constants":[{}],"events":[]}}'),
+}
 SECONDS = 60
 # Of memory, in the units of `ulimit -v`, and of processes.
 KILOBYTES, PROCESSES = 3_000_000, 4_000
@@ -37,6 +43,9 @@ VERY_MANY_FILES = 20_000
 # How often a program is stopped and goes on while it reads.
 STOPS = 20
 NO_LOG = "byte 0: neither JSON-SEQ nor a JSON text a line nor one JSON object"
+NO_NETLOG = "no netlog of Chromium"
+# Programs that say nothing if nobody reads on.
+SILENT = ("qlog-to-trace", "netlog-to-qlog")
 TOO_LARGE = "has more than 268,435,456 bytes: cut it into parts"
 
 
@@ -90,8 +99,8 @@ REASONS = {
 
 
 def programs(qaudit: str, why: str, folder: Path) -> list[Program]:
-    """All five, over copies of a trace and a log that are put into the folder."""
-    for source, name in ((TRACE, TRACE_NAME), (LOG, LOG_NAME)):
+    """All of them, over copies of a trace and of logs that are put into the folder."""
+    for source, name in ((TRACE, TRACE_NAME), (LOG, LOG_NAME), (NETLOG, NETLOG_NAME)):
         (folder / name).write_bytes(source.read_bytes())
     (folder / "dygraphs.js").write_text('x.VERSION = "2.2.1"\n')
     python, page, unwritten = sys.executable, TOP / "page", "cannot write standard output: {}"
@@ -125,6 +134,10 @@ def programs(qaudit: str, why: str, folder: Path) -> list[Program]:
             *("qlog-to-trace", [python, str(FOLDER / "qlog" / "qlog-to-trace")], LOG_NAME),
             *(unwritten, missing, (2, f"/dev/zero: {NO_LOG}")),
         ),
+        Program(
+            *("netlog-to-qlog", [python, str(TOP / "netlog" / "netlog-to-qlog")], NETLOG_NAME),
+            *(unwritten, missing, (2, f"/dev/zero: {NO_NETLOG}")),
+        ),
     ]
 
 
@@ -145,7 +158,7 @@ class Tries(NamedTuple):
     def of_output(self) -> Iterator[Case]:
         """Standard output fails."""
         for name, (before, to, reason) in REASONS.items():
-            is_silent = self.program.name == "qlog-to-trace" and name == "closed-pipe"
+            is_silent = self.program.name in SILENT and name == "closed-pipe"
             says = self.program.says("" if is_silent else self.program.unwritten.format(reason))
             yield Case(name, f"{self.program.input} {to}", 3, says, before=before)
 
@@ -188,8 +201,8 @@ class Tries(NamedTuple):
         if self.program.is_python:
             # Python itself does not start, and says so in its own words.
             yield Case("little-memory", given, None, None, b"", TOO_LITTLE_FOR_PYTHON)
-            large = "large.qlog" if given == LOG_NAME else "large"
-            named = f"{large}: " if given == LOG_NAME else ""
+            large, _ = LARGE.get(given, ("large", ""))
+            named = f"{large}: " if given in LARGE else ""
             says = self.program.says(f"{named}out of memory")
             yield Case("out-of-memory", large, 3, says, b"", LITTLE_OF_PYTHON)
         else:
@@ -291,8 +304,8 @@ def results(qaudit: str, why: str, folder: Path, names: list[str]) -> Results:
     for name, size in (("sparse", 4 * GIBIBYTE), ("large", GIBIBYTE >> 2)):
         with (folder / name).open("wb") as file:
             file.truncate(size)
-    title = ",".join(["{}"] * 4_000_000)
-    (folder / "large.qlog").write_text(f'{{"title":[{title}],"traces":[]}}')
+    for name, text in LARGE.values():
+        (folder / name).write_text(text.format(",".join(["{}"] * 4_000_000)))
     for program in programs(qaudit, why, folder):
         if names and program.name not in names:
             continue

@@ -21,6 +21,7 @@ from testing import new_folder
 TOP = FOLDER.parent
 TRACE = (FOLDER / "traces" / "eleventh-past-window.trace").read_bytes()
 LOG = FOLDER / "real" / "traces" / "ngtcp2-past-window.qlog"
+NETLOG = FOLDER / "real" / "traces" / "chromium-156-loss.netlog"
 # What ends lines, moves the cursor, sets a title, rings, and turns text around.
 HIDDEN = "\x1b[31m\x1b]0;title\x07\x7f\x9b2J\r\x08\u202e\u2066\u061c\u200f\u2028"
 # What nobody sees: tags, fillers, a joiner, a soft hyphen and selectors of variants.
@@ -32,7 +33,9 @@ NO_NAMES = "\0/"
 CHARACTERS_OF_A_NAME = 20_000
 # A name of 255 bytes has 60 characters of 4 bytes.
 CHARACTERS_OF_A_FILE = 60
-PYTHON = ("qaudit-page", "qaudit-matrix", "qlog-to-trace")
+PYTHON = ("qaudit-page", "qaudit-matrix", "qlog-to-trace", "netlog-to-qlog")
+# How inputs are named of programs that take no traces.
+ENDINGS = {"qlog-to-trace": "qlog", "native": "qlog", "netlog-to-qlog": "netlog"}
 WHY = os.environ.get("QAUDIT_WHY", str(TOP / "page" / "stand_in.py"))
 SECONDS = 60
 Ended = subprocess.CompletedProcess[bytes]
@@ -45,6 +48,9 @@ def commands(folder: Path) -> Iterator[tuple[str, list[str]]]:
     for name in PYTHON[:2]:
         yield name, [sys.executable, str(TOP / "page" / name), *options]
     yield PYTHON[2], [sys.executable, str(FOLDER / "qlog" / PYTHON[2])]
+    yield PYTHON[3], [sys.executable, str(TOP / "netlog" / PYTHON[3])]
+    if "QLOG_TO_TRACE" in os.environ:
+        yield "native", [os.environ["QLOG_TO_TRACE"]]
     if "QAUDIT" in os.environ:
         for word in ("check", "explain"):
             yield "qaudit", [os.environ["QAUDIT"], word]
@@ -127,7 +133,9 @@ class Terminals(unittest.TestCase):
         )
         self.assertIn(ended.returncode, ends, (words, ended.stderr[-300:]))
         self.assertNotIn(b"Traceback", ended.stderr)
-        for text in (ended.stdout, ended.stderr):
+        # A record of a qlog begins with a mark that moves nothing.
+        output = ended.stdout.replace(b"\x1e", b"") if name == "netlog-to-qlog" else ended.stdout
+        for text in (output, ended.stderr):
             self.assertEqual(unseen(text, name in PYTHON), set(), (words, text[-300:]))
         return ended
 
@@ -135,8 +143,9 @@ class Terminals(unittest.TestCase):
         evil = f"{HIDDEN}{TAGS}"
         (self.folder / f"{evil}.trace").write_bytes(TRACE)
         (self.folder / f"{evil}.qlog").write_bytes(LOG.read_bytes())
+        (self.folder / f"{evil}.netlog").write_bytes(NETLOG.read_bytes())
         for name, words in commands(self.folder):
-            ending = "qlog" if name == "qlog-to-trace" else "trace"
+            ending = ENDINGS.get(name, "trace")
             self.check(name, [*words, f"{evil}.{ending}"], (0, 1))
             for missing in (f"none{evil}", LONG, LONG + evil):
                 self.check(name, [*words, missing], (3,))
@@ -165,7 +174,7 @@ class Terminals(unittest.TestCase):
     def test_each_character(self) -> None:
         names = list(pieces(characters(), CHARACTERS_OF_A_NAME))
         for name, words in commands(self.folder):
-            if name in PYTHON or "explain" in words:
+            if name in PYTHON or name in ENDINGS or "explain" in words:
                 continue
             ended = self.check(name, [*words, "--", *(f"none/{it}" for it in names)], (3,))
             wanted = "".join(f"{name}: cannot open none/{shown_name(it)}\n" for it in names)
@@ -199,16 +208,27 @@ class Terminals(unittest.TestCase):
         # The stand-in for qaudit-why knows nothing of some of these.
         ends = (0, 1, 2) if "QAUDIT_WHY" in os.environ else (0, 1, 2, 3)
         for name, words in commands(self.folder):
-            for trace in () if name == "qlog-to-trace" else traces(HIDDEN + TAGS):
+            for trace in () if name in ENDINGS else traces(HIDDEN + TAGS):
                 (self.folder / "a.trace").write_bytes(trace)
                 self.check(name, [*words, "a.trace"], ends)
 
     def test_logs(self) -> None:
-        _, words = next(it for it in commands(self.folder) if it[0] == "qlog-to-trace")
+        converters = [it for it in commands(self.folder) if ENDINGS.get(it[0]) == "qlog"]
         for log in logs(HIDDEN + TAGS):
             (self.folder / "a.qlog").write_bytes(log)
-            for more in (list[str](), ["--notes"]):
-                self.check("qlog-to-trace", [*words, *more, "a.qlog"], (0, 2))
+            for name, words in converters:
+                for more in (list[str](), ["--notes"]):
+                    self.check(name, [*words, *more, "a.qlog"], (0, 2))
+
+    def test_netlogs(self) -> None:
+        _, words = next(it for it in commands(self.folder) if it[0] == "netlog-to-qlog")
+        text, evil = NETLOG.read_text(), HIDDEN + TAGS
+        for old in ('"QUIC_SESSION_CRYPTO_FRAME_SENT"', '"ENCRYPTION_INITIAL"', '"packet_number"'):
+            self.assertIn(old, text)
+            new = text.replace(old, json.dumps(evil, ensure_ascii=False))
+            for log in (new, f"{new[:-60]}{evil}", f"{evil}{new}"):
+                (self.folder / "a.netlog").write_text(log)
+                self.check("netlog-to-qlog", [*words, "a.netlog"], (0, 2))
 
 
 if __name__ == "__main__":

@@ -16,7 +16,7 @@ import time
 import unittest
 from pathlib import Path
 
-from made_netlogs import PROGRAM, REAL, TOP, End, netlog, sent
+from made_netlogs import PROGRAM, TOP, End, netlog, sent
 
 from netlog_to_qlog.command import arguments
 
@@ -205,9 +205,6 @@ class Pages(unittest.TestCase):
                     continue
                 word = {".1": f"Fl {option[1:]}", ".fish": f"-l {option[2:]} "}.get(path.suffix)
                 self.assertIn(word or option, text, path.name)
-
-    def test_real_netlogs_are_there(self) -> None:
-        self.assertGreater(len(list(REAL.glob("*.netlog"))), 1)
 
 
 if __name__ == "__main__":

@@ -310,6 +310,11 @@ class Releases(unittest.TestCase):
         self.assertEqual((ended.returncode, ended.stderr), (0, ""))
         said = json.loads((self.top / "said").read_text())["traces"]
         self.assertEqual([it["with_allowances"] for it in said], [True, True])
+        # The reference is in the release, to compare the converter with it.
+        log = "conformance/real/traces/ngtcp2-past-window.qlog"
+        command = ["conformance/qlog/compare", "--native", "bin/qlog-to-trace", log]
+        ended = subprocess.run(command, capture_output=True, text=True, check=True, cwd=there)
+        self.assertEqual(ended.stdout, "4 alike, 0 differ\n")
         self.assertTrue((there / "ci/audit").exists())
         self.assertTrue((to / "share/doc/qaudit/PROVED").exists())
 

@@ -302,7 +302,7 @@ class Taken(InFolder):
         self.assertEqual(self.taken(GOOD).lacks, ())
         self.assertEqual(self.taken(TORN).lacks, ("torn off at line 4; the trace ends there",))
         (told,) = self.taken(NO_JSON).lacks
-        self.assertRegex(told, r"^not JSON: .* at line 5; the trace ends there$")
+        self.assertRegex(told, r"^not JSON(: .*)? at line 5; the trace ends there$")
         (told,) = self.taken(TWO).lacks
         self.assertIn("it has 2 connections or paths; this is number 1", told)
         for words, size in (("", 500), ("--connection 2", 600)):
@@ -317,8 +317,8 @@ class Taken(InFolder):
         for data, reason in (
             (b'{"qlog_version":"0.3","traces":[]}', "it has no traces"),
             (sequence(), "no packet_sent of a QUIC packet with a size"),
-            (sequence({"name": "transport:packet_sent", "time": "x"}), "line 2: time is no number"),
-            (b'{"traces": 5, "title": "x"', "traces is no list of objects"),
+            (sequence({"name": "transport:packet_sent", "time": "x"}), "line 2: time"),
+            (b'{"traces": 5, "title": "x"', "traces is "),
             (b"PK\x03\x04", "a zip archive: unpack it first"),
             (b'\x1e{"a":"\x1b[31m', "line 1: "),
         ):
@@ -619,6 +619,15 @@ class Tables(InFolder):
         self.assertIn(told, self.table())
         self.run_command("--convert=--connection 2")
         self.assertIn("it has 1 connections or paths, and no number 2", self.table())
+        told = self.run_command("--convert=--nothing", status=64)
+        self.assertTrue(told.startswith("qaudit-matrix: qlog-to-trace --nothing: "), told)
+
+    def test_without_a_converter(self) -> None:
+        """Traces are audited all the same."""
+        self.run_command("--converter", "/nowhere", status=3)
+        found = {key: it["kind"] for key, it in self.results().items()}
+        self.assertEqual({key for key, kind in found.items() if kind == "accepted"}, {"trace"})
+        self.assertIn("there is no program /nowhere; --converter names one", self.table())
 
 
 class Ends(unittest.TestCase):
