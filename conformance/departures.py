@@ -28,7 +28,6 @@ from why import (
     Verdict,
     accepted,
     breaks,
-    broken,
     due_of,
     head_of,
     not_read,
@@ -38,6 +37,7 @@ from why import (
     said_by,
     verdict_of,
     why,
+    with_place,
 )
 
 FOLDER = Path(__file__).resolve().parent
@@ -263,7 +263,7 @@ class Follower:
 
     def text_of(self, number: int, event: Event, word: str, what: str) -> bytes:
         """What is written of a rule that an event of a line breaks."""
-        line = broken(number, self.lines[number - 1])
+        line = with_place(number, self.lines[number - 1])
         return head_of(self.name, number, word, what) + breaks(self.sender, event, what, line)
 
 

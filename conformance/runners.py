@@ -107,6 +107,12 @@ def traces_of(corpus: Path) -> list[Path]:
     return [trace for folder in folders for trace in sorted(folder.glob("*.trace"))]
 
 
+def is_log(data: bytes) -> bool:
+    """Whether bytes begin as a log does: JSON-SEQ, or a key of a log in the first line. In a file
+    they are converted by `qaudit-why`, and on standard input they are a trace."""
+    return data.startswith(b"\x1e") or b'"qlog_' in data.partition(b"\n")[0]
+
+
 def simulate() -> ModuleType:
     """The program `simulate` as a module."""
     if "simulate" in sys.modules:

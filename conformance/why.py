@@ -213,7 +213,7 @@ def shown(number: int, line: bytes) -> bytes:
     return f"  {number} | ".encode() + printed(line[:SHOWN_BYTES]) + end
 
 
-def broken(number: int, line: bytes) -> bytes:
+def with_place(number: int, line: bytes) -> bytes:
     """A line that breaks a rule as it is shown, and where in a log it is from."""
     return shown(number, line) + caveats.remarks("  in the log: ", PLACE, line)
 
@@ -331,7 +331,7 @@ def refused(verdict: Verdict, lines: list[bytes]) -> bytes:
         return refused_end(sender)
     for number, event in said:
         if number == verdict.line:
-            return breaks(sender, event, verdict.what, broken(number, lines[number - 1]))
+            return breaks(sender, event, verdict.what, with_place(number, lines[number - 1]))
         sender.follow(event)
     raise ValueError("the report names no line of an event")
 
