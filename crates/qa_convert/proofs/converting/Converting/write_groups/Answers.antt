@@ -14,5 +14,5 @@ loop-group-preserved c =
       events = now.events;
       order = now.order;
       groups = now.groups;
-      told = group_told old.known.settles_sizes old.terms.dialect.sizes_by_growth g.about (told_in old.writing) _ (sent_of rest) c.in_ok-write.ensures ∙ rw items at now.told;
+      told = group_told old.known.settles_sizes old.terms.dialect.sizes_by_growth g.about (told_in old.writing) _ (sent_of rest) c.in_ok-write.ensures.sent ∙ rw items at now.told;
     }
