@@ -146,12 +146,7 @@ impl Conversion {
     }
 
     /// Writes the lines of the ACK frames of a packet, and of the losses that the first shows.
-    fn write_each(
-        &mut self,
-        packet: &PacketAt,
-        held: Values,
-        lost: &[LostAt],
-    ) -> Result<(), NoLine>
+    fn write_each(&mut self, packet: &PacketAt, held: Values, lost: &[LostAt]) -> Result<(), NoLine>
         ensures acks { OnOk result (acks_in (told_in self.new.writing)
             ≡ acks_in (told_in self.old.writing) ++ acked_by packet.now.packet) }
         ensures sent { OnOk result ((told_in self.new.writing).sent
@@ -419,13 +414,7 @@ impl Conversion {
     ///
     /// If the sample by the log is longer than the reported one, by more than the delay that may
     /// have been taken off, then the log is late by that.
-    fn arrival(
-        &mut self,
-        time: u64,
-        sent: u64,
-        delay: u64,
-        held: Values,
-    ) -> Result<u64, AllocError>
+    fn arrival(&mut self, time: u64, sent: u64, delay: u64, held: Values) -> Result<u64, AllocError>
         ensures told { OnOk result (told_in self.new.writing ≡ told_in self.old.writing) }
     {
         let latest = self.values.rtts.latest.unwrap_or(0);

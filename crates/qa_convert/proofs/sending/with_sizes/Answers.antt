@@ -13,6 +13,6 @@ nothing_left (p ∷ ps) e = absurd (search rules)
 pub returns : goal.returns
 returns c s g =
     let none : into_iter_items c.loop-it.it-iterator ≡ [] =
-        nothing_left (into_iter_items c.loop-it.it-iterator) (sym c.loop-it.it-iterator.rest.ok.0 ∙ c.in-None.ensures.steps.0) in
+    nothing_left (into_iter_items c.loop-it.it-iterator) (sym c.loop-it.it-iterator.rest.ok.0 ∙ c.in-None.ensures.steps.0) in
     let done : AreOf s g (sized (into_iter_items c.loop-it.it-iterator)) [] = rw none refl in
     subst (λ (os : List Outgoing). AreOf s g (sized c.args.packets.items) os) (append-nil c.loop-it.found.items) (c.loop-it.invariant.all s g [] done)

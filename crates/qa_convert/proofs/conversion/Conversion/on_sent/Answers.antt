@@ -33,23 +33,23 @@ returns c =
     let ps = sized c.args.packets.items in
     let start = c.in_ok-packets.ensures s g in
     let are : AreOf s g ps c.if-is_some.packets.items =
-        elim c.if-is_some.branch [
-          then-is_some+then-settles+in_ok-settle_sizes w ↦
-            rw (w.packets-is, w.if-settles.true) (w.in_ok-settle_sizes.ensures.are ps (rw w.if-settles.true at start))
-          | else-is_some w ↦ rw w.packets-is start
-        ] in
+    elim c.if-is_some.branch [
+      | then-is_some+then-settles+in_ok-settle_sizes w ↦
+          rw (w.packets-is, w.if-settles.true) (w.in_ok-settle_sizes.ensures.are ps (rw w.if-settles.true at start))
+      | else-is_some w ↦ rw w.packets-is start
+    ] in
     let taken : told_in c.take_beside-is_reported.new.self.writing ≡ told_in c.args.self.now.writing =
-        ap told_in c.take_beside-is_reported.ensures.writing ∙ c.in_ok-guess_probes.ensures.told in
+    ap told_in c.take_beside-is_reported.ensures.writing ∙ c.in_ok-guess_probes.ensures.told in
     let settled : told_in c.if-is_some.self.writing ≡ told_in c.args.self.now.writing =
-        elim c.if-is_some.branch [
-          then-is_some+then-settles+in_ok-settle_sizes w ↦ ap (λ (x : Conversion). told_in x.writing) w.self-is ∙ w.in_ok-settle_sizes.ensures.told ∙ taken
-          | else-is_some w ↦ ap (λ (x : Conversion). told_in x.writing) w.self-is ∙ taken
-        ] in
+    elim c.if-is_some.branch [
+      | then-is_some+then-settles+in_ok-settle_sizes w ↦ ap (λ (x : Conversion). told_in x.writing) w.self-is ∙ w.in_ok-settle_sizes.ensures.told ∙ taken
+      | else-is_some w ↦ ap (λ (x : Conversion). told_in x.writing) w.self-is ∙ taken
+    ] in
     let told : told_in c.if-awaits_discard.self.writing ≡ told_in c.args.self.now.writing =
-        elim c.if-awaits_discard.branch [
-          then-awaits_discard+in_ok-settle w ↦ ap (λ (x : Conversion). told_in x.writing) w.self-is ∙ w.in_ok-settle.ensures.told ∙ settled
-          | else-awaits_discard w ↦ ap (λ (x : Conversion). told_in x.writing) w.self-is ∙ settled
-        ] in
+    elim c.if-awaits_discard.branch [
+      | then-awaits_discard+in_ok-settle w ↦ ap (λ (x : Conversion). told_in x.writing) w.self-is ∙ w.in_ok-settle.ensures.told ∙ settled
+      | else-awaits_discard w ↦ ap (λ (x : Conversion). told_in x.writing) w.self-is ∙ settled
+    ] in
     on_ok_weaker c.send_all.result
     (λ sent. record {
       lines = map line_of c.if-is_some.packets.items;

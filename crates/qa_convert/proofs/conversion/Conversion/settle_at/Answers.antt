@@ -9,6 +9,6 @@ pub returns-clause-are : goal.returns-clause-are
 returns-clause-are c =
     on_ok_weaker c.settle_size.result
     (λ is ps are.
-      set_are true c.args.by_growth ps _ c.args.place c.in-Some.packet.now _ are
-      (λ p here. is p (subst (λ (o : Outgoing). IsOf true c.args.by_growth p o) (sym c.in-Some.ensures.value) here)))
+    set_are true c.args.by_growth ps _ c.args.place c.in-Some.packet.now _ are
+    (λ p here. is p (subst (λ (o : Outgoing). IsOf true c.args.by_growth p o) (sym c.in-Some.ensures.value) here)))
     c.settle_size.ensures.is
