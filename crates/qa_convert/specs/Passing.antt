@@ -1,5 +1,5 @@
--- Events on their way from the log to the lines: each joins those that wait for their order, and goes
--- on into groups.
+-- Events on their way from the log to the lines: each joins those that wait for their order, and
+-- goes on into groups.
 use Rattle.std.specs.Prelude.{◌≡◌, ◌++◌, ◌||◌, ℕ, Bool, true, false, List, [], ◌∷◌, Option, Some}
 use Rattle.std.specs.Prelude.{None, if◌then◌else◌, nat_le, nat_lt, unwrap_or}
 use Rattle.qa_base.specs.values.PerSpace.{of_space}
@@ -45,8 +45,8 @@ counted retry e = if is_left_out retry e then [] else e ∷ []
 abbrev pub waiting : List LoggedEvent → Option (List LoggedEvent) → List LoggedEvent
 waiting events order = events ++ unwrap_or order []
 
--- more events come: they join those that wait, some of these go on into groups, and groups leave the
--- queue in which they are handed out, to be written: the lines tell of their packets
+-- more events come: they join those that wait, some of these go on into groups, and groups leave
+-- the queue in which they are handed out, to be written: the lines tell of their packets
 pub record Passes (waits : List LoggedEvent) (old : Held) (ready : List Group) (before : Told)
     (more waits' : List LoggedEvent) (new : Held) (ready' : List Group) (after : Told)
     : Type 0 where

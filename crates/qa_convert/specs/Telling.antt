@@ -1,6 +1,6 @@
 -- What lines tell of packets: a reader of traces reads the text that was written.
-use Rattle.std.specs.Prelude.{◌≡◌, ◌||◌, ◌&&◌, ℕ, Bool, false, List, [], ◌∷◌, ◌++◌, flat_map, map, Result}
-use Rattle.std.specs.Prelude.{Ok, Option, Some, None}
+use Rattle.std.specs.Prelude.{◌≡◌, ◌||◌, ◌&&◌, ℕ, Bool, false, List, [], ◌∷◌, ◌++◌, flat_map, map}
+use Rattle.std.specs.Prelude.{Result, Ok, Option, Some, None}
 use Rattle.std.specs.List.{fold}
 use Rattle.qa_base.specs.declared.event.Ack.{Ack}
 use Rattle.qa_base.specs.declared.event.Event.{Event}
@@ -125,7 +125,8 @@ pub record Sends (settles by_growth : Bool) (ps : List PacketAt) (before after :
 
 -- what the lines of a group say
 abbrev pub Writes : Bool → Bool → About → Told → Told → Type 0
-Writes settles by_growth (about.Sent ps) before after = Sends settles by_growth ps.items before after
+Writes settles by_growth (about.Sent ps) before after =
+    Sends settles by_growth ps.items before after
 Writes settles by_growth (about.Received p ls) before after = after.sent ≡ before.sent
 Writes settles by_growth (about.Lost ls) before after =
     (after.sent ≡ before.sent) × (after.acks ≡ before.acks)
