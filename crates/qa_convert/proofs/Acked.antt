@@ -1,6 +1,6 @@
 -- Lines of acknowledgments.
 use Rattle.std.proofs.Common.{◌≡◌, ◌∙◌, ◌++◌, ap, inl, inr}
-use Rattle.qa_convert.specs.Acking.{AllOrNone, TellsAcks, ack_key, acked_by, acks_in}
+use Rattle.qa_convert.specs.Acking.{AllOrNone, TellsAcks, acked_by, acks_in}
 use Rattle.qa_convert.specs.Telling.{Told}
 use Rattle.qa_convert.specs.declared.handshake.Keys.{Keys}
 use Rattle.qa_convert.specs.declared.packet.LoggedPacket.{LoggedPacket}

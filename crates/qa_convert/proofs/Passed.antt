@@ -1,8 +1,8 @@
 -- Events that are passed on, and those that are left out.
-use Rattle.std.proofs.Common.{◌≡◌, List, [], ◌∷◌, ◌++◌, Bool, true, false, Option, map, append-nil, refl, sym}
+use Rattle.std.proofs.Common.{◌≡◌, List, [], ◌∷◌, Bool, true, false, Option, map, append-nil, refl, sym}
 use Rattle.qa_convert.proofs.Gathered.{gathers_none}
 use Rattle.qa_convert.proofs.Ordered.{same_follows}
-use Rattle.qa_convert.specs.Groups.{Gathers, Held, Keeps}
+use Rattle.qa_convert.specs.Groups.{Held, Keeps}
 use Rattle.qa_convert.specs.Passing.{Passes, counted, is_left_out}
 use Rattle.qa_convert.specs.Telling.{Told, line_key}
 use Rattle.qa_convert.specs.declared.event.LoggedEvent.{LoggedEvent}

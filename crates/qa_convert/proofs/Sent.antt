@@ -1,10 +1,10 @@
 -- Lines of packets that were sent.
-use Rattle.std.proofs.Common.{◌≡◌, ◌∙◌, ◌<◌, ◌||◌, ℕ, zero, suc, Bool, true, false, List, [], ◌∷◌, ◌++◌, Some, map, length, get_or, append-nil, append_assoc, refl, sym, ap, ap₂}
+use Rattle.std.proofs.Common.{◌≡◌, ◌∙◌, ◌||◌, ℕ, zero, suc, Bool, true, false, List, [], ◌∷◌, ◌++◌, map, get_or, append-nil, append_assoc, refl, sym, ap, ap₂}
 use Rattle.std.proofs.lemmas.List.{map-append}
 use Rattle.std.proofs.Math.ListN.{set}
 use Rattle.qa_qlog.specs.Frames.{is_in_flight}
 use Rattle.qa_convert.specs.Sending.{AreOf, IsOf, line_of}
-use Rattle.qa_convert.specs.Telling.{AreLinesOf, IsLineOf, SentLine, Told, Writes, line_key, may_settle, packet_key, sent_in, sized, with_sent, with_size}
+use Rattle.qa_convert.specs.Telling.{AreLinesOf, IsLineOf, SentLine, Told, Writes, line_key, packet_key, sent_in, sized, with_sent, with_size}
 use Rattle.qa_convert.specs.declared.groups.About.{About}
 use Rattle.qa_convert.specs.declared.groups.About.TheVariants as about
 use Rattle.qa_convert.specs.declared.groups.PacketAt.{PacketAt}

@@ -1,6 +1,6 @@
 -- Events on their way from the log to the lines: each joins those that wait for their order, and
 -- goes on into groups.
-use Rattle.std.specs.Prelude.{◌≡◌, ◌++◌, ◌||◌, ℕ, Bool, true, false, List, [], ◌∷◌, Option, Some}
+use Rattle.std.specs.Prelude.{◌++◌, ◌||◌, ℕ, Bool, false, List, [], ◌∷◌, Option, Some}
 use Rattle.std.specs.Prelude.{None, if◌then◌else◌, nat_le, nat_lt, unwrap_or}
 use Rattle.qa_base.specs.values.PerSpace.{of_space}
 use Rattle.qa_convert.specs.Groups.{Gathers, Held}

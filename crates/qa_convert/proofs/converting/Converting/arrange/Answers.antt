@@ -1,4 +1,4 @@
-use Rattle.std.proofs.Common.{◌≡◌, ◌∙◌, ◌++◌, ◌∷◌, [], List, OnOk, Result, Ok, Err, ap, append-nil}
+use Rattle.std.proofs.Common.{◌≡◌, ◌∙◌, ◌++◌, List, OnOk, Result, Ok, Err, ap, append-nil}
 use Rattle.qa_convert.specs.declared.groups.Group.{Group}
 use Rattle.qa_convert.proofs.converting.Converting.arrange.Goals as goal
 

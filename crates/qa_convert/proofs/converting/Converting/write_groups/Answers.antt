@@ -1,6 +1,6 @@
-use Rattle.std.proofs.Common.{◌≡◌, ◌∙◌, ◌∷◌, ap, rules}
+use Rattle.std.proofs.Common.{◌≡◌, ◌∙◌, ◌∷◌, rules}
 use Rattle.qa_convert.proofs.Sent.{group_told}
-use Rattle.qa_convert.specs.Telling.{line_key, sent_of, told_in}
+use Rattle.qa_convert.specs.Telling.{sent_of, told_in}
 use Rattle.qa_convert.proofs.converting.Converting.write_groups.Goals as goal
 
 pub loop-group-preserved : goal.loop-group-preserved
