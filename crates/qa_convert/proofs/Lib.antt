@@ -1,3 +1,4 @@
+pub mod Acked
 pub mod Ascii
 pub mod Closing
 pub mod Ending

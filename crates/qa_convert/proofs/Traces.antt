@@ -4,7 +4,7 @@ use Rattle.std.proofs.lemmas.List.Sums.{fold-append}
 use Rattle.std.specs.List.{AllByRecursion, fold}
 use Rattle.qa_convert.proofs.OneLine.{texts_read}
 use Rattle.qa_convert.specs.OwnKeys.{AreEventLines, IsWritten, IsWrittenEvent, Noted, noted, texts_of}
-use Rattle.qa_convert.specs.Telling.{Told, nothing, told, with_line}
+use Rattle.qa_convert.specs.Telling.{nothing, told, with_line}
 use Rattle.qa_format.specs.declared.fault.Fault.{Fault}
 use Rattle.qa_format.specs.declared.line.Line.{Line}
 use Rattle.qa_format.specs.format.Lines.{ended, with_lf}

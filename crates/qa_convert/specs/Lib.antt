@@ -1,3 +1,4 @@
+pub mod Acking
 pub mod Clocks
 pub mod Flights
 pub mod Gathering

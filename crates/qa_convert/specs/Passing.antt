@@ -1,10 +1,11 @@
 -- Events on their way from the log to the lines: each joins those that wait for their order, and
 -- goes on into groups.
-use Rattle.std.specs.Prelude.{◌≡◌, ◌++◌, ◌||◌, ℕ, Bool, true, false, List, [], ◌∷◌}
-use Rattle.std.specs.Prelude.{Option, Some, None, if◌then◌else◌, nat_le, nat_lt, unwrap_or}
+use Rattle.std.specs.Prelude.{◌++◌, ◌||◌, ℕ, Bool, false, List, [], ◌∷◌, Option, Some}
+use Rattle.std.specs.Prelude.{None, if◌then◌else◌, nat_le, nat_lt, unwrap_or}
 use Rattle.qa_base.specs.values.PerSpace.{of_space}
 use Rattle.qa_convert.specs.Groups.{Gathers, Held}
 use Rattle.qa_convert.specs.Orders.{Follows}
+use Rattle.qa_convert.specs.Telling.{TellsOf, Told}
 use Rattle.qa_convert.specs.declared.event.LoggedEvent.{LoggedEvent}
 use Rattle.qa_convert.specs.declared.event.Said.{Said}
 use Rattle.qa_convert.specs.declared.event.Said.TheVariants as said
@@ -45,10 +46,12 @@ abbrev pub waiting : List LoggedEvent → Option (List LoggedEvent) → List Log
 waiting events order = events ++ unwrap_or order []
 
 -- more events come: they join those that wait, some of these go on into groups, and groups leave
--- the queue in which they are handed out, to be written
-pub record Passes (waits : List LoggedEvent) (old : Held) (ready : List Group)
-    (more waits' : List LoggedEvent) (new : Held) (ready' : List Group) : Type 0 where
+-- the queue in which they are handed out, to be written: the lines tell of their packets
+pub record Passes (waits : List LoggedEvent) (old : Held) (ready : List Group) (before : Told)
+    (more waits' : List LoggedEvent) (new : Held) (ready' : List Group) (after : Told)
+    : Type 0 where
   pub ordered : List LoggedEvent
   pub follows : Follows waits more (ordered ++ waits')
   pub written : List Group
   pub gathers : Gathers old ordered new ready (written ++ ready')
+  pub told : TellsOf written before after

@@ -1,6 +1,6 @@
 -- What lines tell of packets: a reader of traces reads the text that was written.
-use Rattle.std.specs.Prelude.{◌≡◌, ◌||◌, ◌&&◌, ℕ, Bool, false, List, [], ◌∷◌, ◌++◌, map, Result, Ok}
-use Rattle.std.specs.Prelude.{Option, Some, None}
+use Rattle.std.specs.Prelude.{◌≡◌, ◌||◌, ◌&&◌, ℕ, Bool, false, List, [], ◌∷◌, ◌++◌, flat_map, map}
+use Rattle.std.specs.Prelude.{Result, Ok, Option, Some, None}
 use Rattle.std.specs.List.{fold}
 use Rattle.qa_base.specs.declared.event.Ack.{Ack}
 use Rattle.qa_base.specs.declared.event.Event.{Event}
@@ -14,6 +14,7 @@ use Rattle.qa_format.specs.format.Reading.{reading}
 use Rattle.qa_qlog.specs.Frames.{is_in_flight}
 use Rattle.qa_convert.specs.declared.groups.About.{About}
 use Rattle.qa_convert.specs.declared.groups.About.TheVariants as about
+use Rattle.qa_convert.specs.declared.groups.Group.{Group}
 use Rattle.qa_convert.specs.declared.groups.PacketAt.{PacketAt}
 use Rattle.qa_convert.specs.declared.packet.LoggedPacket.{LoggedPacket}
 use Rattle.qa_convert.specs.declared.writing.Writing.{Writing}
@@ -132,3 +133,24 @@ Writes settles by_growth (about.Lost ls) before after =
 Writes settles by_growth (about.Expired at timer) before after =
     (after.sent ≡ before.sent) × (after.acks ≡ before.acks)
 Writes settles by_growth (about.Other e) before after = after ≡ before
+
+-- the packets that were sent, in groups
+abbrev pub sent_in : About → List PacketAt
+sent_in (about.Sent ps) = ps.items
+sent_in _ = []
+
+abbrev pub sent_of : List Group → List PacketAt
+sent_of gs = flat_map (λ g. sent_in g.about) gs
+
+-- a packet without its size
+abbrev pub line_key : SentLine → Space × ℕ × Bool
+line_key l = (l.space, l.number, l.eliciting)
+
+abbrev pub packet_key : LoggedPacket → Space × ℕ × Bool
+packet_key p = (p.space, p.number, p.content.is_eliciting)
+
+-- the lines of groups tell of their packets that were sent, one for one and in their order, and of
+-- no others
+abbrev pub TellsOf : List Group → Told → Told → Type 0
+TellsOf gs before after =
+    map line_key after.sent ≡ map line_key before.sent ++ map packet_key (sized (sent_of gs))

@@ -1,5 +1,6 @@
 //! The second reading of a log: the lines of its events.
 ghost use Rattle.std.specs.Prelude.{◌≡◌, OnOk};
+ghost use Rattle.qa_convert.specs.Acking.{Acknowledges};
 ghost use Rattle.qa_convert.specs.Telling.{Writes, told_in};
 
 use crate::dialects::{Absent, Dialect, Limited};
@@ -149,8 +150,10 @@ impl Conversion {
 
     /// Writes the lines of a group.
     pub(crate) fn write(&mut self, group: Group) -> Result<(), NoLine>
-        ensures { OnOk result (Writes self.old.known.settles_sizes
+        ensures sent { OnOk result (Writes self.old.known.settles_sizes
             self.old.terms.dialect.sizes_by_growth group.about (told_in self.old.writing)
+            (told_in self.new.writing)) }
+        ensures acks { OnOk result (Acknowledges group.about (told_in self.old.writing)
             (told_in self.new.writing)) }
     {
         let Group { about, beside } = group;

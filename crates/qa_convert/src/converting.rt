@@ -4,6 +4,7 @@ ghost use Rattle.qa_convert.specs.Groups.{Gathers};
 ghost use Rattle.qa_convert.specs.Orders.{Follows};
 ghost use Rattle.qa_convert.specs.Passing as passing;
 ghost use Rattle.qa_convert.specs.Passing.{Passes, counted, waiting};
+ghost use Rattle.qa_convert.specs.Telling.{TellsOf, told_in};
 
 use crate::conversion::{Conversion, Terms};
 use crate::event::{At, LoggedEvent, Said, losses_of};
@@ -180,8 +181,9 @@ impl Converting {
     /// Passes an event on, if it is behind a Retry, and no loss of what a probe only sends again.
     fn pass(&mut self, event: LoggedEvent) -> Result<(), NoLine>
         ensures { OnOk result (Passes (waiting self.old.events.items self.old.order)
-            self.old.groups self.old.ready.items (counted self.old.retry event)
-            (waiting self.new.events.items self.new.order) self.new.groups self.new.ready.items) }
+            self.old.groups self.old.ready.items (told_in self.old.conversion.writing)
+            (counted self.old.retry event) (waiting self.new.events.items self.new.order)
+            self.new.groups self.new.ready.items (told_in self.new.conversion.writing)) }
     {
         if self.leaves_out(&event)? {
             return Ok(());
@@ -192,6 +194,8 @@ impl Converting {
     /// Whether an event says nothing of the trace; if so, it is counted.
     fn leaves_out(&mut self, event: &LoggedEvent) -> Result<bool, NoLine>
         ensures left { IfOk result (λ left. left ≡ passing.is_left_out self.old.retry event.now) }
+        ensures told { OnOk result (told_in self.new.conversion.writing
+            ≡ told_in self.old.conversion.writing) }
         ensures order { self.new.order ≡ self.old.order }
         ensures groups { self.new.groups ≡ self.old.groups }
         ensures events { self.new.events.items ≡ self.old.events.items }
@@ -220,8 +224,9 @@ impl Converting {
     /// complete.
     fn arrange(&mut self, event: LoggedEvent) -> Result<(), NoLine>
         ensures { OnOk result (Passes (waiting self.old.events.items self.old.order)
-            self.old.groups self.old.ready.items (event ∷ [])
-            (waiting self.new.events.items self.new.order) self.new.groups self.new.ready.items) }
+            self.old.groups self.old.ready.items (told_in self.old.conversion.writing)
+            (event ∷ []) (waiting self.new.events.items self.new.order)
+            self.new.groups self.new.ready.items (told_in self.new.conversion.writing)) }
     {
         self.queue(event)?;
         self.group()?;
@@ -232,6 +237,7 @@ impl Converting {
     fn queue(&mut self, event: LoggedEvent) -> Result<(), AllocError>
         ensures order { OnOk result (Follows (waiting self.old.events.items self.old.order)
             (event ∷ []) (waiting self.new.events.items self.new.order)) }
+        ensures conversion { self.new.conversion ≡ self.old.conversion }
         ensures groups { self.new.groups ≡ self.old.groups }
         ensures ready { self.new.ready.items ≡ self.old.ready.items }
     {
@@ -249,6 +255,7 @@ impl Converting {
         ensures groups { OnOk result (Gathers self.old.groups self.old.events.items self.new.groups
             self.old.ready.items self.new.ready.items) }
         ensures events { OnOk result (self.new.events.items ≡ []) }
+        ensures conversion { self.new.conversion ≡ self.old.conversion }
         ensures order { self.new.order ≡ self.old.order }
     {
         while let Some(event) = self.events.pop_front() {
@@ -260,6 +267,8 @@ impl Converting {
     /// Writes groups that are complete.
     fn write_groups(&mut self) -> Result<(), NoLine>
         ensures written { OnOk result (self.new.ready.items ≡ []) }
+        ensures told { OnOk result (TellsOf self.old.ready.items
+            (told_in self.old.conversion.writing) (told_in self.new.conversion.writing)) }
         ensures events { self.new.events.items ≡ self.old.events.items }
         ensures order { self.new.order ≡ self.old.order }
         ensures groups { self.new.groups ≡ self.old.groups }

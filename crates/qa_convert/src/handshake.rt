@@ -5,6 +5,7 @@
 //! with the first Handshake packet that comes, and at the end of the handshake, each at the event
 //! behind which the reported bytes in flight have lost those of the space.
 ghost use Rattle.std.specs.Prelude.{◌≡◌, OnOk};
+ghost use Rattle.qa_convert.specs.Acking.{is_gone};
 ghost use Rattle.qa_convert.specs.Telling.{told_in};
 
 use crate::event::At;
@@ -79,7 +80,9 @@ impl Keys {
     }
 
     /// Whether the keys of a space are gone.
-    pub(crate) fn are_gone(self, space: Space) -> bool {
+    pub(crate) fn are_gone(self, space: Space) -> bool
+        ensures { result ≡ is_gone self space }
+    {
         match space {
             Space::Initial => self.initial_is_gone,
             Space::Handshake => self.handshake_is_gone,

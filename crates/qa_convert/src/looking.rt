@@ -1,4 +1,7 @@
 //! What the first reading finds by counting: in which order a log is, and how fine its clock is.
+ghost use Rattle.std.specs.Prelude.{◌≡◌, is_some};
+ghost use Rattle.qa_base.specs.values.Events.{has_ranges};
+
 use crate::dialects::Dialect;
 use crate::event::{At, LostPacket, Report};
 use crate::flight::Flying;
@@ -431,7 +434,9 @@ pub(crate) fn top_of(acks: &[LoggedAck]) -> Option<u64> {
 }
 
 /// The greatest number that an ACK frame names.
-pub(crate) fn top_in(ack: &LoggedAck) -> Option<u64> {
+pub(crate) fn top_in(ack: &LoggedAck) -> Option<u64>
+    ensures { is_some result ≡ has_ranges ack.now.ranges }
+{
     let mut top: Option<u64> = None;
     for span in ack.ranges.as_slice() {
         let high = span.hi().get();

@@ -1,5 +1,6 @@
 //! Packets that come, and what their ACK frames say.
-ghost use Rattle.std.specs.Prelude.{◌≡◌, ◌≤◌, OnOk, length};
+ghost use Rattle.std.specs.Prelude.{◌≡◌, ◌≤◌, ◌++◌, OnOk, length};
+ghost use Rattle.qa_convert.specs.Acking.{AllOrNone, TellsAcks, acked, acked_by, acks_in, named};
 ghost use Rattle.qa_convert.specs.Telling.{told_in};
 
 use crate::conversion::{Conversion, LATE_BY_PROGRAM};
@@ -10,9 +11,10 @@ use crate::handshake::Change;
 use crate::looking::{top_in, top_of};
 use crate::omission::Omission;
 use crate::packet::{LoggedAck, LoggedPacket};
+use crate::place::Place;
 use crate::rounding::{Estimate, Reports};
 use crate::values::Values;
-use crate::writing::NoLine;
+use crate::writing::{NoLine, Writing};
 use qa_base::{Ack, Event, PerSpace, Space};
 use std::alloc::{AllocError, Global};
 use std::collections::BTreeSet;
@@ -33,33 +35,60 @@ impl Conversion {
         before: Vec<LostAt>,
         beside: &[LoggedEvent],
     ) -> Result<(), NoLine>
+        ensures acks { OnOk result (AllOrNone packet.now.packet (told_in self.old.writing)
+            (told_in self.new.writing)) }
         ensures sent { OnOk result ((told_in self.new.writing).sent
             ≡ (told_in self.old.writing).sent) }
     {
         self.has_come = true;
         let (beside, later) = beside.split_at(self.shown_part(packet, beside));
         let lost = self.lost_before(packet, before, beside)?;
-        if packet.packet.space == Space::Handshake {
-            self.keys.take_keys(&mut self.writing, packet.at)?;
-        }
+        self.take_keys(packet)?;
         let held = self.values;
         let in_flight = self.writing.flights.bytes();
         let is_reported = self.take_beside(beside);
-        let lost = if lost.is_empty() {
-            losses_in(self.writing.alloc, beside)?
-        } else {
-            lost
-        };
+        let lost = or_among(self.writing.alloc, lost, beside)?;
         self.write_acks(packet, held, lost)?;
-        if is_reported && self.writing.flights.bytes() < in_flight {
+        let before = Before {
+            held,
+            in_flight,
+            is_reported,
+        };
+        self.after_acks(packet, before, beside, later)
+    }
+
+    /// A packet of the Handshake space shows that its keys are there.
+    fn take_keys(&mut self, packet: &PacketAt) -> Result<(), NoLine>
+        ensures told { OnOk result (told_in self.new.writing ≡ told_in self.old.writing) }
+    {
+        if packet.packet.space == Space::Handshake {
+            self.keys.take_keys(&mut self.writing, packet.at)?;
+        }
+        Ok(())
+    }
+
+    /// What a packet says beside its ACK frames, and what is said behind it.
+    fn after_acks(
+        &mut self,
+        packet: &PacketAt,
+        before: Before,
+        beside: &[LoggedEvent],
+        later: &[LoggedEvent],
+    ) -> Result<(), NoLine>
+        ensures acks { OnOk result ((told_in self.new.writing).acks
+            ≡ (told_in self.old.writing).acks) }
+        ensures sent { OnOk result ((told_in self.new.writing).sent
+            ≡ (told_in self.old.writing).sent) }
+    {
+        if before.is_reported && self.writing.flights.bytes() < before.in_flight {
             self.take_zero();
         }
         if packet.packet.content.has_handshake_done {
             self.keys.on_done(&mut self.writing, packet.at)?;
         }
-        if is_reported {
+        if before.is_reported {
             self.report(latest_report(packet.at.time, beside))?;
-        } else if held != self.values {
+        } else if before.held != self.values {
             self.report(packet.at.time)?;
         }
         self.keys.after_received(packet.at, self.known.turns);
@@ -96,25 +125,39 @@ impl Conversion {
         held: Values,
         lost: Vec<LostAt>,
     ) -> Result<(), NoLine>
+        ensures acks { OnOk result (TellsAcks self.new.keys packet.now.packet
+            (told_in self.old.writing) (told_in self.new.writing)) }
         ensures sent { OnOk result ((told_in self.new.writing).sent
             ≡ (told_in self.old.writing).sent) }
     {
         if self.keys.awaits_discard() {
             self.settle_received(packet, &lost)?;
         }
-        let mut is_first = true;
+        if packet.packet.acks.is_empty() {
+            return match lost.first() {
+                Some(first) => self.lost_alone(first.at, &lost, &[]),
+                None => Ok(()),
+            };
+        }
+        if self.keys.are_gone(packet.packet.space) {
+            return Ok(pass_over(&mut self.writing, &packet.packet.acks)?);
+        }
+        self.write_each(packet, held, &lost)
+    }
+
+    /// Writes the lines of the ACK frames of a packet, and of the losses that the first shows.
+    fn write_each(&mut self, packet: &PacketAt, held: Values, lost: &[LostAt]) -> Result<(), NoLine>
+        ensures acks { OnOk result (acks_in (told_in self.new.writing)
+            ≡ acks_in (told_in self.old.writing) ++ acked_by packet.now.packet) }
+        ensures sent { OnOk result ((told_in self.new.writing).sent
+            ≡ (told_in self.old.writing).sent) }
+    {
+        let mut lost = lost;
         for ack in &packet.packet.acks {
-            if is_first {
-                self.write_ack(packet, ack, held, &lost)?;
-            } else {
-                self.write_ack(packet, ack, held, &[])?;
-            }
-            is_first = false;
+            self.write_ack(packet, ack, held, lost)?;
+            lost = &[];
         }
-        match lost.first() {
-            Some(first) if is_first => self.lost_alone(first.at, &lost, &[]),
-            _ => Ok(()),
-        }
+        Ok(())
     }
 
     /// How much of what is beside a packet is of it, if the log has no timers: up to a loss that no
@@ -244,6 +287,8 @@ impl Conversion {
         held: Values,
         lost: &[LostAt],
     ) -> Result<(), NoLine>
+        ensures acks { OnOk result (acks_in (told_in self.new.writing)
+            ≡ acks_in (told_in self.old.writing) ++ acked packet.now.packet.space ack.now) }
         ensures sent { OnOk result ((told_in self.new.writing).sent
             ≡ (told_in self.old.writing).sent) }
     {
@@ -251,9 +296,6 @@ impl Conversion {
         let Some(top) = top_in(ack) else {
             return Ok(self.writing.omit(Omission::AckOfNothing)?);
         };
-        if self.keys.are_gone(space) {
-            return Ok(self.writing.omit(Omission::AckOfGoneSpace)?);
-        }
         let sent = self.writing.flights.of(space).get(top);
         self.writing.flights.take_named(space, &ack.ranges);
         let (nanoseconds, delay) = match sent {
@@ -275,22 +317,33 @@ impl Conversion {
         };
         let app_limited = self.is_limited(held.bytes.window)? && lost.is_empty();
         let time = self.writing.next_time(nanoseconds)?;
-        let event = Event::Ack(Ack {
+        let answer = Ack {
             time,
             space,
             ranges: ack.ranges.duplicate(self.writing.alloc)?,
             delay: self.writing.output.in_unit(delay),
             app_limited,
-        });
-        if event.fits() {
-            self.writing
-                .output
-                .write(event, packet.at.place, packet.at.place)?;
-        }
+        };
+        self.put_ack(packet.at.place, answer)?;
         self.probe.packets = 0;
         let largest = self.largest.of_mut(space);
         *largest = Some(top.max(largest.unwrap_or(0)));
         self.write_lost(packet.at.time, lost)
+    }
+
+    /// Writes the line of an acknowledgment, if it names a packet.
+    fn put_ack(&mut self, place: Place, answer: Ack) -> Result<(), NoLine>
+        ensures acks { OnOk result (acks_in (told_in self.new.writing)
+            ≡ acks_in (told_in self.old.writing) ++ named answer.space answer.ranges) }
+        ensures sent { OnOk result ((told_in self.new.writing).sent
+            ≡ (told_in self.old.writing).sent) }
+    {
+        let event = Event::Ack(answer);
+        if !event.fits() {
+            return Ok(());
+        }
+        self.writing.output.write(event, place, place)?;
+        Ok(())
     }
 
     /// When an acknowledgment came whose largest packet was in flight, and its delay, both as the
@@ -413,6 +466,42 @@ impl Conversion {
         }
         Ok(settled)
     }
+}
+
+/// Passes over the ACK frames of a packet of a space whose keys are gone.
+fn pass_over(writing: &mut Writing, acks: &[LoggedAck]) -> Result<(), AllocError>
+    ensures { OnOk result (told_in writing.new ≡ told_in writing.old) }
+{
+    for ack in acks {
+        let omission = match top_in(ack) {
+            Some(_) => Omission::AckOfGoneSpace,
+            None => Omission::AckOfNothing,
+        };
+        writing.omit(omission)?;
+    }
+    Ok(())
+}
+
+/// The losses in front of a packet, or those among events where there are none.
+fn or_among(
+    alloc: Global,
+    lost: Vec<LostAt>,
+    events: &[LoggedEvent],
+) -> Result<Vec<LostAt>, AllocError> {
+    if lost.is_empty() {
+        losses_in(alloc, events)
+    } else {
+        Ok(lost)
+    }
+}
+
+/// What was known before the ACK frames of a packet were taken in: the last report, the bytes in
+/// flight, and whether a report is beside the packet.
+#[derive(Clone, Copy)]
+struct Before {
+    held: Values,
+    in_flight: u128,
+    is_reported: bool,
 }
 
 /// An ACK frame whose largest packet was in flight: when that was sent, what was known before the

@@ -1,4 +1,4 @@
-use Rattle.std.proofs.Common.{◌≡◌, [], ◌∷◌, ℕ, List, length, refl, sym, ◌∙◌, append-nil, rules, subst}
+use Rattle.std.proofs.Common.{◌≡◌, [], ◌∷◌, List, length, refl, sym, ◌∙◌, append-nil, rules, subst}
 use Rattle.std.specs.Vec.Iter.{into_iter_items}
 use Rattle.qa_convert.specs.Sending.{AreOf}
 use Rattle.qa_convert.specs.Telling.{sized}

@@ -2,7 +2,7 @@ use Rattle.std.proofs.Common.{◌≡◌, ◌≤◌, ◌∙◌, [], ◌∷◌, Li
 use Rattle.std.proofs.lemmas.Result.{on_ok_weaker}
 use Rattle.qa_convert.proofs.Sent.{lines_are, none_sent}
 use Rattle.qa_convert.specs.Sending.{AreOf, line_of}
-use Rattle.qa_convert.specs.Telling.{sized, told_in, with_sent}
+use Rattle.qa_convert.specs.Telling.{sized, told_in}
 use Rattle.qa_convert.specs.declared.conversion.Conversion.{Conversion}
 use Rattle.qa_convert.specs.declared.sending.Outgoing.{Outgoing}
 use Rattle.qa_convert.proofs.conversion.Conversion.on_sent.Goals as goal

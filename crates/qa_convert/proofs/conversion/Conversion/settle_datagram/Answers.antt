@@ -1,7 +1,5 @@
-use Rattle.std.proofs.Common.{◌∙◌, true, subst, sym}
+use Rattle.std.proofs.Common.{◌∙◌, true}
 use Rattle.qa_convert.proofs.Sent.{set_are}
-use Rattle.qa_convert.specs.Sending.{IsOf}
-use Rattle.qa_convert.specs.declared.sending.Outgoing.{Outgoing}
 use Rattle.qa_convert.proofs.conversion.Conversion.settle_datagram.Goals as goal
 
 pub loop-packet-preserved : goal.loop-packet-preserved

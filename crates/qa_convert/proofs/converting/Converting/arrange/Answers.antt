@@ -1,7 +1,10 @@
-use Rattle.std.proofs.Common.{◌≡◌, ◌∙◌, ◌++◌, ◌∷◌, [], List, ap, append-nil}
-use Rattle.std.proofs.lemmas.Result.{on_ok_weaker}
+use Rattle.std.proofs.Common.{◌≡◌, ◌∙◌, ◌++◌, List, OnOk, Result, Ok, Err, ap, append-nil}
 use Rattle.qa_convert.specs.declared.groups.Group.{Group}
 use Rattle.qa_convert.proofs.converting.Converting.arrange.Goals as goal
+
+both_ok : {T E P Q R : Type 0} (r : Result T E) → OnOk r P → OnOk r Q → (P → Q → R) → OnOk r R
+both_ok (Ok x) p q f = f p q
+both_ok (Err e) p q f = tt
 
 pub returns : goal.returns
 returns c =
@@ -9,13 +12,14 @@ returns c =
     let grouped = c.in_ok-group.ensures in
     let ordered = c.queue.new.self.events.items in
     let ready = c.group.new.self.ready.items in
-    on_ok_weaker c.write_groups.result
-    (λ none. record {
+    let wrote = c.write_groups.ensures in
+    both_ok c.write_groups.result wrote.written wrote.told
+    (λ none told. record {
       ordered = ordered;
       follows = rw (c.write_groups.ensures.events, grouped.events, c.write_groups.ensures.order, grouped.order) queued.order;
       written = ready;
       gathers =
           let all : ready ++ c.write_groups.new.self.ready.items ≡ ready = ap (λ (gs : List Group). ready ++ gs) none ∙ append-nil ready in
           rw (all, c.write_groups.ensures.groups) (rw (queued.groups, queued.ready) at grouped.groups);
+      told = rw (grouped.conversion, queued.conversion) at told;
     })
-    c.write_groups.ensures.written

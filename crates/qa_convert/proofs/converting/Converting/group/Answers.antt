@@ -13,4 +13,5 @@ loop-event-preserved c =
       all = append_assoc now.done (e ∷ []) rest ∙ ap (λ es. now.done ++ es) (sym items) ∙ now.all;
       gathers = gathers_then _ _ _ now.done (e ∷ []) _ _ _ now.gathers c.in_ok-push.ensures;
       order = now.order;
+      conversion = now.conversion;
     }

@@ -9,6 +9,7 @@ invariant-loop-event l = record {
   all : done ++ l.self.events.items ≡ l.initial.self.events.items;
   gathers : Gathers l.initial.self.groups done l.self.groups l.initial.self.ready.items l.self.ready.items;
   order : l.self.order ≡ l.initial.self.order;
+  conversion : l.self.conversion ≡ l.initial.self.conversion;
 }
 
 abbrev pub decreases-loop-event : goal.decreases-loop-event

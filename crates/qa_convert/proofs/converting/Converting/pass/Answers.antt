@@ -7,4 +7,4 @@ returns-then-branch c =
     let w = c.args.self.now in
     let left = c.in_ok-leaves_out.ensures in
     rw (left.order, left.groups, left.events, left.ready)
-    (passes_left_out w.retry c.args.event _ w.groups w.ready.items (sym left.left ∙ c.if-branch.true))
+    (passes_left_out w.retry c.args.event _ w.groups w.ready.items _ _ (sym left.left ∙ c.if-branch.true) left.told)

@@ -1,4 +1,4 @@
-use Rattle.std.proofs.Common.{[], append-nil}
+use Rattle.std.proofs.Common.{append-nil}
 use Rattle.qa_convert.proofs.Ordered.{pushed_follows, same_follows}
 use Rattle.qa_convert.proofs.converting.Converting.queue.Goals as goal
 

@@ -1,0 +1,6 @@
+use Rattle.std.proofs.Common.{◌≡◌}
+use Rattle.qa_convert.specs.Telling.{told_in}
+use Rattle.qa_convert.proofs.receiving.pass_over.Given as goal
+
+abbrev pub invariant-loop-ack : goal.invariant-loop-ack
+invariant-loop-ack l = told_in l.writing ≡ told_in l.initial.writing
