@@ -22,7 +22,7 @@ MOST_TOLD = 1 << 20
 # What it says of what is in the log and not in the trace.
 LACKING = re.compile(
     r"(?:; the record is passed over|such records are passed over|; the trace ends there"
-    r"|, another by --connection N)$"
+    r"|, another by qlog-to-trace --connection N)$"
 )
 # What it adds to a reason if it has written lines before. Nobody sees these here.
 WRITTEN_BEFORE = re.compile(r"; the trace ends after its line [0-9]+$")

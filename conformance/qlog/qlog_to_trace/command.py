@@ -267,7 +267,8 @@ def choose(
     if not fitting and asked is not None:
         raise Unusable(f"no trace of a {asked} is in it")
     if not fitting:
-        raise Unusable("its vantage point is neither a client nor a server: say which by --vantage")
+        text = "its vantage point is no client or server: say which by qlog-to-trace --vantage"
+        raise Unusable(text)
     chosen = chosen_of(len(fitting), number, TRACES) if len(fitting) > 1 else 1
     index = fitting[chosen - 1]
     return index, roles[index] or asked or "", len(fitting)

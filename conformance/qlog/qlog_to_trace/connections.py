@@ -42,4 +42,5 @@ def chosen_of(count: int, asked: int | None, what: str) -> int:
 
 def others(count: int, chosen: int, what: str) -> str:
     """What is told where there are others."""
-    return f"it has {count} {what}; this is number {chosen}, another by --connection N"
+    is_number = f"it has {count} {what}; this is number {chosen}"
+    return f"{is_number}, another by qlog-to-trace --connection N"

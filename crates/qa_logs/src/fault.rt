@@ -47,7 +47,7 @@ pub enum LogFault {
     #[error("no trace of a server is in it")]
     NoServer,
     /// No trace says of which endpoint it is.
-    #[error("its vantage point is neither a client nor a server: say which by --vantage")]
+    #[error("its vantage point is no client or server: say which by qlog-to-trace --vantage")]
     NoVantage,
     /// It has so many traces of which one could be meant, and not one of this number.
     #[error("it has {0} traces, and no number {1}")]

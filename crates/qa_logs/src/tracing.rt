@@ -125,7 +125,7 @@ fn others(
     }
     let text = format!(in alloc;
         "it has {count} {what}; this is number {number}, another by \
-        --connection N"
+        qlog-to-trace --connection N"
     )?;
     Ok(Some(text))
 }
