@@ -160,7 +160,10 @@ class Sessions(unittest.TestCase):
     def test_the_one_with_most_packets_is_the_first(self) -> None:
         end = End(self.BOTH)
         self.assertEqual({line["size"] for line in end.only("sent")}, {1250})
-        told = "LOG: it has 2 connections or paths; this is number 1, another by qlog-to-trace --connection N\n"
+        told = (
+            "LOG: it has 2 connections or paths; this is number 1, another by qlog-to-trace"
+            " --connection N\n"
+        )
         self.assertEqual(end.trace.errors, f"qlog-to-trace: {told}")
         other = End(self.BOTH, "--connection", "2")
         self.assertEqual([line["size"] for line in other.only("sent")], [1001])
