@@ -132,7 +132,7 @@ class Ends(unittest.TestCase):
             (sequence(header(), [sent(0, 0, size=None)]), "line 2: packet_sent: no raw.length"),
             (sequence(header(), [sent(0, 0), received(1, [[5, 4]])]), "line 3: .*range 5 to 4"),
             (sequence(header(), []), "no packet_sent"),
-            (sequence(header(role="network"), self.EVENTS), ".*say which by qlog-to-trace --vantage"),
+            (sequence(header(role="network"), self.EVENTS), ".*by qlog-to-trace --vantage"),
             (sequence(header(form="sidereal"), self.EVENTS), "time_format is sidereal"),
             (sequence({"common_fields": 5} | role, []), "common_fields is no object"),
             (sequence({"event_fields": 5} | role, []), "event_fields is no list"),
