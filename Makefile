@@ -173,7 +173,7 @@ conformance-mutations:
 conformance-malicious:
 	conformance/malicious $(program)
 	conformance/malicious --few $(program_by_one_byte)
-	conformance/malicious --why $(program_why) $(program)
+	conformance/malicious --why $(program_why) --converter $(program_of_logs) $(program)
 	QAUDIT='$(abspath $(program))' QAUDIT_WHY='$(abspath $(program_why))' QLOG_TO_TRACE='$(abspath $(program_of_logs))' \
 		python3 conformance/test_terminals.py
 

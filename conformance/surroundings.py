@@ -46,6 +46,7 @@ NO_LOG = "byte 0: neither JSON-SEQ nor a JSON text a line nor one JSON object"
 NO_NETLOG = "no netlog of Chromium"
 # Programs that say nothing if nobody reads on.
 SILENT = ("qlog-to-trace", "netlog-to-qlog")
+TOO_LONG = "more than 1,073,741,824 bytes, the limit for a stream: name a file instead"
 TOO_LARGE = "has more than 268,435,456 bytes: cut it into parts"
 
 
@@ -63,9 +64,22 @@ class Program(NamedTuple):
     reads_input: bool = True
     takes_several: bool = False
     is_python: bool = True
+    # What it says of a file of zeros, if that is not what it says of zeros without an end.
+    sparse: tuple[int, str] | None = None
     # What it writes before the text of one of several files, and behind those of so many good ones.
     before_each: str = ""
     behind_all: str = ""
+
+    @property
+    def label(self) -> str:
+        """What its cases are called: the converter is there twice."""
+        is_native = self.name == "qlog-to-trace" and not self.is_python
+        return f"native-{self.name}" if is_native else self.name
+
+    def reason(self, number: int) -> str:
+        """How it says why a write failed, by the number of the error."""
+        text = os.strerror(number)
+        return text.lower() if self.is_python else f"{text} (os error {number})"
 
     def says(self, text: str) -> bytes:
         """A line on standard error."""
@@ -90,36 +104,32 @@ class Case(NamedTuple):
     before: str = ""
 
 
-# How standard output fails: what the shell does before, and with the program, and the reason.
+# How standard output fails: what the shell does before, and with the program, and the error.
 REASONS = {
-    "full-disk": ("", "> /dev/full", "no space left on device"),
-    "no-output": ("", ">&-", "bad file descriptor"),
-    "closed-pipe": ("exec 9> >(exec true); wait $!", ">&9", "broken pipe"),
+    "full-disk": ("", "> /dev/full", errno.ENOSPC),
+    "no-output": ("", ">&-", errno.EBADF),
+    "closed-pipe": ("exec 9> >(exec true); wait $!", ">&9", errno.EPIPE),
 }
 
 
-def programs(qaudit: str, why: str, folder: Path) -> list[Program]:
+class Built(NamedTuple):
+    """The programs in Rattle."""
+
+    qaudit: str
+    why: str
+    converter: str
+
+
+def programs(built: Built, folder: Path) -> list[Program]:
     """All of them, over copies of a trace and of logs that are put into the folder."""
     for source, name in ((TRACE, TRACE_NAME), (LOG, LOG_NAME), (NETLOG, NETLOG_NAME)):
         (folder / name).write_bytes(source.read_bytes())
     (folder / "dygraphs.js").write_text('x.VERSION = "2.2.1"\n')
     python, page, unwritten = sys.executable, TOP / "page", "cannot write standard output: {}"
-    options = ["--program", why, "--dygraphs", str(folder / "dygraphs.js")]
+    options = ["--program", built.why, "--dygraphs", str(folder / "dygraphs.js")]
     missing = "cannot open none: no such file"
-    fault = f"write fault: {TRACE_NAME}"
     return [
-        Program(
-            *("qaudit", [qaudit, "check"], TRACE_NAME, "write fault", "cannot open none", (2, "")),
-            takes_several=True,
-            is_python=False,
-            before_each=f"file {TRACE_NAME}\n",
-        ),
-        Program(
-            *("qaudit-why", [why], TRACE_NAME, fault, "cannot open none", (2, "")),
-            takes_several=True,
-            is_python=False,
-            behind_all="{0} traces: {0} accepted, 0 refused, 0 unreadable\n",
-        ),
+        *natives(built, unwritten, missing),
         Program(
             *("qaudit-page", [python, str(page / "qaudit-page"), *options], TRACE_NAME),
             *(unwritten, missing, (2, f"/dev/zero {TOO_LARGE}")),
@@ -141,6 +151,31 @@ def programs(qaudit: str, why: str, folder: Path) -> list[Program]:
     ]
 
 
+def natives(built: Built, unwritten: str, missing: str) -> list[Program]:
+    """Those in Rattle."""
+    none, fault = "cannot open none", f"write fault: {TRACE_NAME}"
+    return [
+        Program(
+            *("qaudit", [built.qaudit, "check"], TRACE_NAME, "write fault", none, (2, "")),
+            takes_several=True,
+            is_python=False,
+            before_each=f"file {TRACE_NAME}\n",
+        ),
+        Program(
+            *("qaudit-why", [built.why], TRACE_NAME, fault, none, (2, "")),
+            takes_several=True,
+            is_python=False,
+            behind_all="{0} traces: {0} accepted, 0 refused, 0 unreadable\n",
+        ),
+        Program(
+            *("qlog-to-trace", [built.converter], LOG_NAME, unwritten, missing),
+            (3, f"/dev/zero: {TOO_LONG}"),
+            is_python=False,
+            sparse=(2, "/dev/zero: byte 0: no JSON object with a list of traces"),
+        ),
+    ]
+
+
 class Tries(NamedTuple):
     """A program that is tried in a folder, and what it writes for a good input."""
 
@@ -157,8 +192,9 @@ class Tries(NamedTuple):
 
     def of_output(self) -> Iterator[Case]:
         """Standard output fails."""
-        for name, (before, to, reason) in REASONS.items():
+        for name, (before, to, number) in REASONS.items():
             is_silent = self.program.name in SILENT and name == "closed-pipe"
+            reason = self.program.reason(number)
             says = self.program.says("" if is_silent else self.program.unwritten.format(reason))
             yield Case(name, f"{self.program.input} {to}", 3, says, before=before)
 
@@ -174,8 +210,9 @@ class Tries(NamedTuple):
 
     def of_files(self) -> Iterator[Case]:
         """Files that are none."""
-        status, says = self.program.zeros
         for name, path in (("zeros-without-end", "/dev/zero"), ("sparse-file", "sparse")):
+            is_file = path != "/dev/zero"
+            status, says = (self.program.sparse if is_file else None) or self.program.zeros
             yield Case(name, path, status, self.program.says(says.replace("/dev/zero", path)))
             if self.program.takes_several and not self.program.is_python:
                 yield Case(f"{name}-among-several", f"{self.program.input} {path}", status)
@@ -299,23 +336,23 @@ def run(command: Words, folder: Path) -> Outcome:
     return outcome_of(started(command, folder))
 
 
-def results(qaudit: str, why: str, folder: Path, names: list[str]) -> Results:
+def results(built: Built, folder: Path, names: list[str]) -> Results:
     """The result of each case, or of those of the programs that are named."""
     for name, size in (("sparse", 4 * GIBIBYTE), ("large", GIBIBYTE >> 2)):
         with (folder / name).open("wb") as file:
             file.truncate(size)
     for name, text in LARGE.values():
         (folder / name).write_text(text.format(",".join(["{}"] * 4_000_000)))
-    for program in programs(qaudit, why, folder):
+    for program in programs(built, folder):
         if names and program.name not in names:
             continue
         usual = run([*program.command, program.input], folder)
         failure = differences(usual, Case("", "", 0)) or ("" if usual.output else "no output")
-        yield Result(f"surroundings/{program.name}/usual", failure)
+        yield Result(f"surroundings/{program.label}/usual", failure)
         if failure:
             continue
         tries = Tries(program, folder, usual.text())
         for case in tries.cases():
-            name = f"surroundings/{program.name}/{case.name}"
+            name = f"surroundings/{program.label}/{case.name}"
             yield Result(name, tries.failure_of(case))
-        yield Result(f"surroundings/{program.name}/interrupted-calls", tries.stopped())
+        yield Result(f"surroundings/{program.label}/interrupted-calls", tries.stopped())
