@@ -108,7 +108,7 @@ class Limits(unittest.TestCase):
                 ["bash", "-c", command], capture_output=True, text=True, check=False
             )
         self.assertEqual(ended.returncode, 2, ended.stderr)
-        self.assertIn("its vantage point is neither", ended.stderr)
+        self.assertIn("its vantage point is no client", ended.stderr)
 
     def test_counts_of_probe_timeouts(self) -> None:
         for count, status in ((32, 0), (33, 2)):
