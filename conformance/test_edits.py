@@ -18,12 +18,15 @@ from runners import FOLDER
 from testing import new_folder, write_program
 
 KIT = "kit-1 logic 2"
+KIT_WITHOUT_NAMES = "rattle-kit-13b logic 2"
 RT = f"""\
 import os, pathlib, signal, sys
 if sys.argv[1] == "version":
-    print("{KIT}")
+    print(os.environ.get("KIT", "{KIT}"))
     sys.exit()
 print("rt:", *sys.argv[1:])
+for built in sorted(pathlib.Path("crates").glob("*/out/rlib/stamp")):
+    print("rt: has", built.read_text())
 for edit in sorted(pathlib.Path("crates").glob("*/must-fail/*.edit")):
     name = f"must-fail {{edit.parts[1]}}/{{edit.name}}"
     if len(sys.argv) > 2 and edit.parts[1] not in sys.argv:
@@ -81,13 +84,13 @@ class EditsTest(unittest.TestCase):
         self.git("commit", "--quiet", "--allow-empty", "--message", "All of it")
         return self.git("rev-parse", "HEAD")
 
-    def run_edits(self, status: int, *words: str) -> list[str]:
+    def run_edits(self, status: int, *words: str, kit: str = KIT) -> list[str]:
         """Runs the program, which must end with this status, and answers what it printed."""
         path = f"{self.top / 'bin'}:{os.environ['PATH']}"
         ended = subprocess.run(
             [sys.executable, "release/edits", *words],
             cwd=self.top,
-            env={**os.environ, "PATH": path},
+            env={**os.environ, "PATH": path, "KIT": kit},
             capture_output=True,
             text=True,
             check=False,
@@ -121,6 +124,23 @@ class EditsTest(unittest.TestCase):
             wanted = {"refused": "1", "not_refused": "none", "commit": commit, "kit": KIT}
             self.assertEqual(row, wanted)
         self.assertEqual(self.run_edits(0, "--check"), [])
+
+    def test_kit_without_names(self) -> None:
+        self.write(".gitignore", "bin/\nout/\n__pycache__/\n")
+        for name in ("qa", "qc"):
+            self.write(f"crates/{name}/out/rlib/stamp", name)
+        self.write("edits/qb/three.edit", "still proved\n")
+        self.commit()
+        printed = self.run_edits(1, kit=KIT_WITHOUT_NAMES)
+        self.assertEqual(self.asked(printed), [])
+        # The libraries that qa and qb are made of are there, and no others.
+        asked = ["rt: must-fail qa", "rt: has qa", "rt: must-fail qb", "rt: has qa"]
+        is_asked = ("rt: must-fail qa\n", "rt: must-fail qb\n", "rt: has")
+        self.assertEqual([it for it in printed if f"{it}\n".startswith(is_asked)], asked)
+        rows = self.result()
+        self.assertEqual([row["refused"] for row in rows.values()], ["1", "1"])
+        self.assertEqual(rows["qb"]["not_refused"], "qb/three")
+        self.assertEqual(rows["qb"]["kit"], KIT_WITHOUT_NAMES)
 
     def test_nothing_is_tried_again(self) -> None:
         self.run_edits(0)

@@ -14,12 +14,21 @@ PROGRAMS = ("qaudit", "qaudit_why", "qlog_to_trace")
 SECONDS = Path("release/seconds.json")
 # What a crate needs of its folder to be proved, built and run.
 PARTS = ("src", "specs", "proofs", "stdin", "stdout", "args", "status", "data")
+# A kit whose gate takes no names of crates, and proves everything again each time: what another kit
+# keeps, it cannot be told to leave.
+WITHOUT_NAMES = "rattle-kit-13b"
 # As long as no crate was measured: 32 minutes for the 53,000 lines of `qaudit`, in an earlier run.
 SECONDS_OF_A_LINE = 0.036
 
 
 class Stopped(Exception):
     """Why nothing was done, or why it failed, in words for the user."""
+
+
+def takes_names(kit: str) -> bool:
+    """Whether the gate of a kit, which `rt version` names, can be told which crates it is to prove,
+    and to use nothing that it kept."""
+    return kit.split()[:1] != [WITHOUT_NAMES]
 
 
 @dataclass(frozen=True)

@@ -529,6 +529,10 @@ class Minutes(unittest.TestCase):
         wanted = "how long it takes was not measured"
         self.assertEqual(self.minutes.said_of("quick", page), wanted)
 
+    def test_the_gate_from_nothing(self) -> None:
+        self.assertEqual(self.minutes.gate("rattle-kit-13b logic 1"), ["rt", "ci"])
+        self.assertEqual(self.minutes.gate("rattle-kit-13f logic 1"), ["rt", "ci", "--anew"])
+
     def test_minutes_by_crate(self) -> None:
         watch = Watch(seconds={("qa_base", 1): 90.0, ("qa_base", 2): 30.0}, for_edits={2})
         measured = self.minutes.Measured("gate", 100, 180, 4, 0.25, "abcd")
