@@ -390,7 +390,7 @@ class Releases(unittest.TestCase):
     @unittest.skipUnless(shutil.which("lintian"), "there is no lintian")
     def test_lintian_has_no_errors(self) -> None:
         file = self.top / "qaudit_0.3.0-1_amd64.deb"
-        # The converter of a release is no program in Python, which would name the one that runs this.
+        # The converter of a release is not in Python: it would name the Python that runs this.
         shutil.copy(self.programs[0], self.programs[2])
         self.say_proved()
         self.run_words("release/deb", self.packed("one", 0o022), file)
