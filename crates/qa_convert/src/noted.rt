@@ -11,6 +11,7 @@ ghost use Rattle.qa_format.specs.format.Proper.{IsProperLine};
 ghost use Rattle.qa_format.specs.format.Written.{line_fits, written};
 
 use crate::own::OwnKeys;
+use qa_fast_writer::push_event;
 use qa_format::Line;
 use qa_trace::write_line;
 use serde_json::Value;
@@ -19,6 +20,8 @@ use thiserror::Error;
 
 /// The most bytes that a line has, its LF not counted.
 const LONGEST_LINE: usize = 65_536;
+/// Room for the text of most lines.
+const USUAL_LINE: usize = 256;
 
 /// Why a line was not written.
 #[derive(Clone, Copy, Debug, PartialEq, Eq, Error)]
@@ -63,8 +66,42 @@ pub fn push_noted(
     ensures too_long { IfErr result (λ fault. fault ≡ TooLong → (out.new.items ≡ out.old.items)
         × (line_limit < length (noted line.now (members_view own.entries)))) }
 {
+    let text = text_of_line(alloc, line)?;
+    push_with(alloc, line, text.as_slice(), own, out)?;
+    Ok(())
+}
+
+/// The text of a line.
+fn text_of_line(alloc: Global, line: &Line) -> Result<Vec<u8>, AllocError>
+    requires fitting { line_fits line.now ≡ true }
+    ensures text { IfOk result (λ text. text.items ≡ written line.now) }
+    ensures proper { OnOk result (IsProperLine line.now) }
+{
+    let mut text = Vec::with_capacity(alloc, USUAL_LINE)?;
+    push_text(alloc, line, &mut text)?;
+    Ok(text)
+}
+
+/// Appends the text of a line: that of an event at once, another by way of a value of JSON.
+fn push_text(alloc: Global, line: &Line, out: &mut Vec<u8>) -> Result<(), AllocError>
+    requires fitting { line_fits line.now ≡ true }
+    ensures text { OnOk result (out.new.items ≡ out.old.items ++ written line.now) }
+    ensures proper { OnOk result (IsProperLine line.now) }
+{
+    match line {
+        Line::Event(event) => push_event(event, out),
+        _ => push_by_value(alloc, line, out),
+    }
+}
+
+/// Appends the text of a line by way of a value of JSON.
+fn push_by_value(alloc: Global, line: &Line, out: &mut Vec<u8>) -> Result<(), AllocError>
+    requires fitting { line_fits line.now ≡ true }
+    ensures text { OnOk result (out.new.items ≡ out.old.items ++ written line.now) }
+    ensures proper { OnOk result (IsProperLine line.now) }
+{
     let text = write_line(alloc, line)?;
-    push_with(alloc, line, text.as_str(), own, out)?;
+    out.extend_from_slice(text.as_bytes())?;
     Ok(())
 }
 
@@ -72,7 +109,7 @@ pub fn push_noted(
 fn push_with(
     alloc: Global,
     line: &Line,
-    text: &str,
+    text: &[u8],
     own: OwnKeys,
     out: &mut Vec<u8>,
 ) -> Result<(), NotedFault>
@@ -86,10 +123,10 @@ fn push_with(
         × (line_limit < length (noted line.now (members_view own.entries)))) }
 {
     if own.is_empty() || text.is_empty() {
-        return push_line(text.as_bytes(), out);
+        return push_line(text, out);
     }
     let own_text = text_of(alloc, own)?;
-    push_joined(text.as_bytes(), own_text.as_bytes(), out)
+    push_joined(text, own_text.as_bytes(), out)
 }
 
 /// The object of own keys as a text of JSON, without white space.

@@ -20,10 +20,9 @@ pub returns : goal.returns
 returns c =
     let x = c.args.line.now in
     let own = members_view c.args.own.entries in
-    let text : c.as_bytes-2.result.now ≡ written x = c.as_bytes-2.ensures.value ∙ c.requires.text in
-    let own_text : c.as_bytes-3.result.now ≡ compact_text (object own) = c.as_bytes-3.ensures.value ∙ c.in_ok-own_text.ensures in
+    let text : c.args.text.now ≡ written x = c.requires.text in
+    let own_text : c.as_bytes.result.now ≡ compact_text (object own) = c.as_bytes.ensures.value ∙ c.in_ok-own_text.ensures in
     let some : has_member own ≡ true = has_entries c.args.own.entries (λ none. let yes = c.is_empty.ensures.1 none in let both : false ≡ true = rw c.if-is_empty.false at yes in cc) in
-    let filled : (length c.as_bytes-2.result.now == 0) ≡ false =
-    ap (λ n. n == 0) c.as_bytes-2.ensures.len ∙ sym c.is_empty-else-is_empty.ensures ∙ c.if-is_empty-2.false in
-    let long : 1 ≤ length (written x) = rw text at (positive (length c.as_bytes-2.result.now) filled) in
+    let filled : (length c.args.text.now == 0) ≡ false = sym c.is_empty-else-is_empty.ensures ∙ c.if-is_empty-2.false in
+    let long : 1 ≤ length (written x) = rw text at (positive (length c.args.text.now) filled) in
     rw (noted_joined x own some long) (rw (text, own_text) at c.push_joined.ensures)

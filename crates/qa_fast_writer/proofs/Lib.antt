@@ -1,0 +1,4 @@
+pub mod Added
+pub mod Closed
+pub mod Listed
+pub mod Plain

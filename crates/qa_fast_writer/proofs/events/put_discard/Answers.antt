@@ -1,0 +1,15 @@
+use Rattle.serde_json.specs.Data.{array}
+use Rattle.qa_base.specs.declared.key.Key.TheVariants as key
+use Rattle.qa_base.specs.declared.line_kind.LineKind.TheVariants as kinds
+use Rattle.qa_base.specs.declared.rule.Field.TheVariants.{Window, Ssthresh, BytesInFlight, LatestRtt, MinRtt, SmoothedRtt, Rttvar}
+use Rattle.qa_base.specs.values.Names.{kind_name, line_kind_name, permission_name, space_name}
+use Rattle.qa_format.specs.format.Written.{boolean, integer, integer_pairs, reported, string}
+use Rattle.qa_fast_writer.proofs.Added.{last, none, one, some}
+use Rattle.qa_fast_writer.proofs.events.put_discard.Goals as goal
+
+pub returns-clause-text : goal.returns-clause-text
+returns-clause-text c =
+    let s0 = none c.args.out.now.items in
+    let s1 = one c.put_kind.new.out.items (key.Event, string (line_kind_name kinds.Discard)) s0 c.in_ok-put_kind.ensures in
+    let s2 = one c.put_space.new.out.items (key.Space, string (space_name c.args.space)) s1 c.in_ok-put_space.ensures in
+    last c.put_time.result (λ h. (one c.put_time.new.out.items (key.Time, integer c.args.time) s2 h).is) c.put_time.ensures.put
