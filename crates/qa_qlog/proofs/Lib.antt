@@ -1,6 +1,7 @@
 pub mod Beginning
 pub mod Bounds
 pub mod Categories
+pub mod Counted
 pub mod Digits
 pub mod Finding
 pub mod Gathered

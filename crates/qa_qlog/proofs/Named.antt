@@ -1,7 +1,7 @@
 -- Fields, taken one at a time.
 use Rattle.std.proofs.Common.{◌≡◌, ◌∙◌, ◌+◌, ◌<◌, ◌≤◌, ◌∷◌, ℕ, suc, List, [], Bool, true, false, cond, Option, Some, None, bytes_eq, length, drop, get_or, map, refl, sym, ap, arith, drop-cons, drop_of_length-le}
-use Rattle.json.specs.Json.{Json, Items, no_items, item, no_members}
-use Rattle.json.specs.Find.{get_member, later_or}
+use Rattle.json.specs.Json.{Json, null, boolean, number, string, array, object, Items, no_items, item, no_members}
+use Rattle.json.specs.Find.{as_object, get, get_member, later_or}
 use Rattle.qa_qlog.specs.declared.heads.TimeForm.{TimeForm}
 use Rattle.qa_qlog.specs.Heads.{form_named, form_of_fields}
 use Rattle.qa_qlog.specs.Records.{zipped}
@@ -65,3 +65,13 @@ zip_no_items key fields js earlier none =
 
 pub zip_no_fields : (key : List ℕ) (fields : List (List ℕ)) (js : Items) (earlier : Option Json) → fields ≡ [] → later_or (get_member key (zipped fields js)) earlier ≡ earlier
 zip_no_fields key fields js earlier none = ap (λ fs. later_or (get_member key (zipped fs js)) earlier) none
+
+-- ---- values at keys
+
+pub get_nothing : (name : List ℕ) (j : Json) → as_object j ≡ None → get name j ≡ None
+get_nothing name null e = refl
+get_nothing name (boolean b) e = refl
+get_nothing name (number s) e = refl
+get_nothing name (string s) e = refl
+get_nothing name (array js) e = refl
+get_nothing name (object ms) e = cc

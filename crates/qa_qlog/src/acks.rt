@@ -9,7 +9,7 @@ ghost use Rattle.qa_qlog.specs.Ranges.{GivesRanges};
 
 use crate::keys::{Key, NoValue};
 use crate::numbers::{duration_or_zero, whole_of, whole_or_zero};
-use crate::says::says;
+use crate::says::{get, says};
 use crate::times::{LONGEST, Unit};
 use json::{Element, Items};
 use qa_base::{PacketNumber, Span, Spans};
@@ -31,7 +31,7 @@ pub enum NoRanges {
 pub fn acked_ranges(alloc: Global, frame: &Element<'_, '_>) -> Result<Spans, NoRanges>
     ensures { (j : Json) → BeginsWith frame.now j → GivesRanges result (acks.ranges j) }
 {
-    ranges_at(alloc, &frame.get("acked_ranges"))
+    ranges_at(alloc, &get(frame, "acked_ranges"))
 }
 
 /// The ranges of a list, if it says anything.
@@ -129,7 +129,7 @@ pub fn ack_delay(frame: &Element<'_, '_>, unit: Unit, exponent: u8) -> Result<u6
     requires { exponent ≤ 20 }
     ensures { (j : Json) → BeginsWith frame.now j → result ≡ acks.delay unit exponent j }
 {
-    let delay = match duration_or_zero(&frame.get("ack_delay"), Key::AckDelay, unit) {
+    let delay = match duration_or_zero(&get(frame, "ack_delay"), Key::AckDelay, unit) {
         Ok(delay) => delay,
         Err(fault) => return Err(fault),
     };
@@ -164,5 +164,5 @@ fn power(exponent: u8) -> u128
 pub fn ce_count(frame: &Element<'_, '_>) -> Result<u64, NoValue>
     ensures { (j : Json) → BeginsWith frame.now j → result ≡ acks.ce_count j }
 {
-    whole_or_zero(&frame.get("ce"), Key::Ce)
+    whole_or_zero(&get(frame, "ce"), Key::Ce)
 }

@@ -7,6 +7,7 @@ ghost use Rattle.qa_qlog.specs.Heads as heads;
 ghost use Rattle.qa_qlog.specs.Records as records;
 
 use crate::heads::TimeForm;
+use crate::says::get;
 use json::{Element, Items};
 use std::alloc::{AllocError, Global};
 use std::marker::Model;
@@ -70,7 +71,7 @@ impl Fields {
         ensures { (j : Json) → BeginsWith value.now j
             → Finds result (records.at_key self.now key.now j) }
     {
-        if let Some(found) = value.get(key) {
+        if let Some(found) = get(value, key) {
             return Some(found);
         }
         match value.items() {

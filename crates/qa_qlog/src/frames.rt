@@ -12,7 +12,7 @@ ghost use Rattle.qa_qlog.specs.Says as said;
 use crate::keys::{Key, NoValue};
 use crate::names::is_named;
 use crate::packets::Packet;
-use crate::says::{is_object, key_at, says, says_at, text_at};
+use crate::says::{get, is_object, key_at, says, says_at, text_at};
 use json::{Element, Items};
 
 /// The types of frames by which packets differ.
@@ -111,11 +111,11 @@ pub fn frame_type(frame: &Element<'_, '_>) -> FrameType
 fn type_at<'t, 'a>(frame: &Element<'t, 'a>) -> Option<Element<'t, 'a>>
     ensures { (j : Json) → BeginsWith frame.now j → Finds result (frames.type_at j) }
 {
-    let found = frame.get("frame_type");
+    let found = get(frame, "frame_type");
     if says_at(&found) {
         return found;
     }
-    frame.get("type")
+    get(frame, "type")
 }
 
 impl<'t, 'a> Packet<'t, 'a> {

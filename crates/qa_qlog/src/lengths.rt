@@ -8,7 +8,7 @@ use crate::keys::{Key, NoValue};
 use crate::numbers::{optional_at, whole_or_zero};
 use crate::packets::Packet;
 use crate::records::written;
-use crate::says::{is_object, key_at, says_at, text_at};
+use crate::says::{get, is_object, key_at, says_at, text_at};
 use json::Element;
 
 impl<'t, 'a> Packet<'t, 'a> {
@@ -61,7 +61,7 @@ fn inside<'t, 'a>(found: Option<Element<'t, 'a>>, key: &str) -> Option<Element<'
     match found {
         Some(value) => {
             if is_object(&value) {
-                value.get(key)
+                get(&value, key)
             } else {
                 Some(value)
             }
@@ -74,21 +74,21 @@ fn inside<'t, 'a>(found: Option<Element<'t, 'a>>, key: &str) -> Option<Element<'
 pub fn frame_length(frame: &Element<'_, '_>) -> Result<Option<u64>, NoValue>
     ensures { (j : Json) → BeginsWith frame.now j → result ≡ lengths.frame_length j }
 {
-    optional_at(&frame.get("length"), Key::FrameLength)
+    optional_at(&get(frame, "length"), Key::FrameLength)
 }
 
 /// How many bytes of data a CRYPTO or a STREAM frame has, if it says it.
 pub fn data_length(frame: &Element<'_, '_>) -> Result<Option<u64>, NoValue>
     ensures { (j : Json) → BeginsWith frame.now j → result ≡ lengths.data_length j }
 {
-    optional_at(&frame.get("payload_length"), Key::PayloadLength)
+    optional_at(&get(frame, "payload_length"), Key::PayloadLength)
 }
 
 /// At which byte of its stream the data of a frame begin.
 pub fn offset(frame: &Element<'_, '_>) -> Result<u64, NoValue>
     ensures { (j : Json) → BeginsWith frame.now j → result ≡ lengths.offset j }
 {
-    whole_or_zero(&frame.get("offset"), Key::Offset)
+    whole_or_zero(&get(frame, "offset"), Key::Offset)
 }
 
 /// The number of the stream of a frame, as the record writes it.
@@ -96,7 +96,7 @@ pub fn stream_id<'a>(frame: &Element<'_, 'a>) -> Option<&'a str>
     ensures { (j : Json) → BeginsWith frame.now j
         → option_map (λ s. s.now) result ≡ lengths.stream_id j }
 {
-    match frame.get("stream_id") {
+    match get(frame, "stream_id") {
         Some(value) => Some(written(&value)),
         None => None,
     }
@@ -106,7 +106,7 @@ pub fn stream_id<'a>(frame: &Element<'_, 'a>) -> Option<&'a str>
 pub fn is_open(frame: &Element<'_, '_>) -> bool
     ensures { (j : Json) → BeginsWith frame.now j → result ≡ lengths.is_open j }
 {
-    is_false(&frame.get("explicit_length")) && !says_at(&frame.get("payload_length"))
+    is_false(&get(frame, "explicit_length")) && !says_at(&get(frame, "payload_length"))
 }
 
 /// Whether it is false, and not only says nothing.

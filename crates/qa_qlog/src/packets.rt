@@ -9,7 +9,7 @@ use crate::keys::{Key, NoValue};
 use crate::names::is_named;
 use crate::numbers::{optional_at, whole_at};
 use crate::records::object_only;
-use crate::says::{is_given, key_at, says_at, text_at};
+use crate::says::{get, is_given, key_at, says_at, text_at};
 use json::Element;
 use qa_base::Space;
 
@@ -102,7 +102,7 @@ impl<'t, 'a> Packet<'t, 'a> {
             → Finds result (packets.in_header h d key.now) }
     {
         match &self.header {
-            Some(header) => header.get(key),
+            Some(header) => get(header, key),
             None => key_at(&self.object, key),
         }
     }

@@ -1,7 +1,9 @@
 //! What a value of a text says.
 ghost use Rattle.std.specs.Prelude.{◌≡◌, List, Option, option_map};
 ghost use Rattle.json.specs.Json.{Json};
+ghost use Rattle.json.specs.Find as find;
 ghost use Rattle.json.specs.Find.{BeginsWith, Finds};
+ghost use Rattle.std.specs.Str.{bytes_eq};
 ghost use Rattle.qa_qlog.specs.Kinds.{is_string};
 ghost use Rattle.qa_qlog.specs.Says as said;
 
@@ -75,12 +77,36 @@ pub(crate) fn text_at<'a>(found: &Option<Element<'_, 'a>>) -> Option<&'a str>
     }
 }
 
+/// What a value says at a key, if it is an object: its last member of that name.
+///
+/// Most keys have another length than the one that is looked for, and are passed over at once.
+pub(crate) fn get<'t, 'a>(value: &Element<'t, 'a>, name: &str) -> Option<Element<'t, 'a>>
+    ensures { (j : Json) → BeginsWith value.now j → Finds result (find.get name.now j) }
+{
+    let mut members = value.members()?;
+    let mut found = None;
+    while let Some((key, member)) = members.next() {
+        if is_same(key, name) {
+            found = Some(member);
+        }
+    }
+    found
+}
+
+/// Whether two texts are the same.
+#[inline(always)]
+fn is_same(here: &str, there: &str) -> bool
+    ensures { result ≡ bytes_eq here.now there.now }
+{
+    here.len() == there.len() && here == there
+}
+
 /// What an object says at a key, if there is an object.
 pub(crate) fn key_at<'t, 'a>(found: &Option<Element<'t, 'a>>, key: &str) -> Option<Element<'t, 'a>>
     ensures { (o : Option Json) → Finds found.now o → Finds result (said.key_at key.now o) }
 {
     match found {
-        Some(value) => value.get(key),
+        Some(value) => get(value, key),
         None => None,
     }
 }
