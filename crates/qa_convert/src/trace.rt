@@ -1,4 +1,5 @@
 //! A log as a trace: it is read twice, text by text.
+ghost use Rattle.std.specs.Prelude.{◌≡◌, []};
 ghost use Rattle.qa_convert.specs.OwnKeys.{AreEventLines, IsHeaderLine};
 
 use crate::conversion::Terms;
@@ -17,6 +18,7 @@ use json::Scratch;
 use qa_base::{Controller, Role};
 use qa_qlog::Head;
 use std::alloc::{AllocError, Global};
+use std::marker::Model;
 use thiserror::Error;
 
 /// Why a log gives no trace.
@@ -182,12 +184,21 @@ fn doubt(
     Ok(())
 }
 
-/// The second reading of a log, by which its lines are written.
+/// The second reading of a log, by which its lines are written. Contracts see the line of the
+/// header, and the lines that were written since `clear`.
 #[derive(Drop)]
 pub struct SecondReading {
     line: HeaderLine,
     scratch: Scratch,
     converting: Converting,
+}
+
+impl Model for SecondReading {
+    ghost use Rattle.std.specs.Prelude.{List, ℕ};
+
+    ghost Value = { List ℕ × List ℕ };
+
+    ghost view = { λ r. (r.line, r.converting.conversion.writing.output.text) };
 }
 
 impl SecondReading {
@@ -210,7 +221,8 @@ impl SecondReading {
     /// The line of the header, with its LF. A reader of traces reads it as what it says
     /// (`written_lines_are_read`).
     pub fn header(&self) -> &[u8]
-        ensures { IsHeaderLine result.now }
+        ensures text { result.now ≡ self.now.0 }
+        ensures line { IsHeaderLine result.now }
     {
         self.line.as_slice()
     }
@@ -218,13 +230,16 @@ impl SecondReading {
     /// The lines that were written since `clear`, each ended by LF. Each is that of an event, and a
     /// reader of traces reads it as what it says (`written_lines_are_read`).
     pub fn text(&self) -> &[u8]
-        ensures { AreEventLines result.now }
+        ensures text { result.now ≡ self.now.1 }
+        ensures lines { AreEventLines result.now }
     {
         self.converting.conversion.writing.output.text.as_slice()
     }
 
     /// Takes those lines away.
-    pub fn clear(&mut self) {
+    pub fn clear(&mut self)
+        ensures { self.new ≡ (self.old.0, []) }
+    {
         self.converting.conversion.writing.output.text.clear();
     }
 

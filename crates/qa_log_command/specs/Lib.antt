@@ -1,3 +1,4 @@
 pub mod Ending
 pub mod Failing
+pub mod Handing
 pub mod Written

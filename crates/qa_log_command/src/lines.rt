@@ -6,13 +6,15 @@ ghost use Rattle.qa_log_command.specs.Failing.{fails_to_write};
 
 use crate::bytes::{Bytes, Parts};
 use crate::failure::Failure;
+use memchr::memchr_iter;
 use qa_logs::{Opening, Reading, Request, Trace, Wants};
 use std::alloc::Global;
 use std::io::Read;
+use std::marker::Model;
 use std::rt::Files;
 
 /// The lines of the trace of a log, some at a time. The log is read for the third time as they are
-/// asked for.
+/// asked for. Contracts see what `text` returns.
 #[derive(Drop)]
 pub struct Lines<'a, F> {
     trace: Trace,
@@ -23,11 +25,20 @@ pub struct Lines<'a, F> {
     passed: u64,
 }
 
+impl<'a, F> Model for Lines<'a, F> {
+    ghost use Rattle.std.specs.Prelude.{List, ℕ};
+
+    ghost Value = { List ℕ };
+
+    ghost view = { λ l. l.trace };
+}
+
 impl<'a, F: Read + Drop> Lines<'a, F> {
     /// The header, with its LF; or once `advance` was called lines of events, each ended by LF, and
     /// perhaps none.
     pub fn text(&self) -> &[u8]
-        ensures { IsHeaderLine result.now ⊎ AreEventLines result.now }
+        ensures text { result.now ≡ self.now }
+        ensures lines { IsHeaderLine result.now ⊎ AreEventLines result.now }
     {
         self.trace.text()
     }
@@ -112,10 +123,8 @@ fn read<F: Read, T: Reading>(parts: &mut Parts<'_, F>, reading: &mut T) -> Resul
 /// How many lines a text has, each ended by LF.
 fn count_lines(text: &[u8]) -> u64 {
     let mut lines: u64 = 0;
-    for byte in text {
-        if *byte == b'\n' {
-            lines = lines.saturating_add(1);
-        }
+    for _place in memchr_iter(b'\n', text) {
+        lines = lines.saturating_add(1);
     }
     lines
 }

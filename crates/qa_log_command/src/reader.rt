@@ -1,4 +1,6 @@
 //! A reader of the trace of a log.
+ghost use Rattle.std.specs.Prelude.{◌≡◌, ◌≢◌, ◌+◌, ◌<◌, ◌^◌, [], IfOk, length};
+ghost use Rattle.qa_log_command.specs.Handing.{Gives, left};
 
 use crate::failure::Stopped;
 use crate::lines::Lines;
@@ -38,13 +40,35 @@ impl<'a, F: Read + Drop> TraceReader<'a, F> {
         self.stopped.as_ref()
     }
 
+    /// The next bytes of the trace, as many as there are and as the buffer takes; none at its end.
+    ///
+    /// While some of the lines at this point are left, these are the next of them, and nothing
+    /// else changes. A read fails as the reader itself says.
+    pub fn next(&mut self, buffer: &mut [u8]) -> io::Result<usize>
+        ensures { left self.old ≢ [] → IfOk result (Gives self.old self.new
+            buffer.old buffer.new) }
+    {
+        self.fill()?;
+        Ok(self.give(buffer))
+    }
+
     /// What is left of the lines at this point.
-    fn rest(&self) -> &[u8] {
-        self.lines.text().get(self.passed..).unwrap_or(&[])
+    fn rest(&self) -> &[u8]
+        ensures rest { result.now ≡ left self.now }
+        ensures fits { self.now.passed + length result.now < 2 ^ 64 }
+    {
+        let text = self.lines.text();
+        if self.passed < text.len() {
+            &text[self.passed..]
+        } else {
+            &[]
+        }
     }
 
     /// Goes on to lines of which some are left, or to the end.
-    fn fill(&mut self) -> io::Result<()> {
+    fn fill(&mut self) -> io::Result<()>
+        ensures { left self.old ≢ [] → self.new ≡ self.old }
+    {
         'lines: for _i in 0..u64::MAX {
             if !self.rest().is_empty() || !self.advance()? {
                 break;
@@ -53,8 +77,10 @@ impl<'a, F: Read + Drop> TraceReader<'a, F> {
         Ok(())
     }
 
-    /// Goes on by one step. Returns false at the end.
-    fn advance(&mut self) -> io::Result<bool> {
+    /// Goes on by one step, to the first byte of its lines. Returns false at the end.
+    fn advance(&mut self) -> io::Result<bool>
+        ensures { IfOk result (λ has_more. self.new.passed ≡ 0) }
+    {
         if self.stopped.is_some() {
             return Err(io::Error::from(io::ErrorKind::InvalidData));
         }
@@ -68,15 +94,21 @@ impl<'a, F: Read + Drop> TraceReader<'a, F> {
             }
         }
     }
-}
 
-impl<'a, F: Read + Drop> Read for TraceReader<'a, F> {
-    fn read(&mut self, buffer: &mut [u8]) -> io::Result<usize> {
-        self.fill()?;
+    /// Gives what is left of the lines at this point, as much as the buffer takes.
+    fn give(&mut self, buffer: &mut [u8]) -> usize
+        ensures { Gives self.old self.new buffer.old buffer.new result }
+    {
         let rest = self.rest();
         let count = rest.len().min(buffer.len());
         buffer[..count].copy_from_slice(&rest[..count]);
         self.passed = self.passed.saturating_add(count);
-        Ok(count)
+        count
+    }
+}
+
+impl<'a, F: Read + Drop> Read for TraceReader<'a, F> {
+    fn read(&mut self, buffer: &mut [u8]) -> io::Result<usize> {
+        self.next(buffer)
     }
 }

@@ -1,5 +1,5 @@
 //! The second reading of the records of a log, by which its trace is written.
-ghost use Rattle.std.specs.Prelude.{◌⊎◌};
+ghost use Rattle.std.specs.Prelude.{◌≡◌, ◌⊎◌};
 ghost use Rattle.qa_convert.specs.OwnKeys.{AreEventLines, IsHeaderLine};
 
 use crate::Reading;
@@ -10,8 +10,10 @@ use crate::log::Log;
 use crate::unread::{Instead, Unread};
 use qa_convert::{NoLine, NoMore, NoRecord, SecondReading};
 use std::alloc::{AllocError, Global};
+use std::marker::Model;
 
-/// The second reading of the records of a log, by which its trace is written.
+/// The second reading of the records of a log, by which its trace is written. Contracts see the
+/// lines that were written and not given away.
 #[derive(Drop)]
 pub struct Trace {
     alloc: Global,
@@ -35,6 +37,14 @@ struct Written {
     trace: u64,
     /// Whether the next text is the head.
     is_at_head: bool,
+}
+
+impl Model for Trace {
+    ghost use Rattle.std.specs.Prelude.{List, ℕ, if◌then◌else◌};
+
+    ghost Value = { List ℕ };
+
+    ghost view = { λ t. if t.has_header then t.records.second.0 else t.records.second.1 };
 }
 
 impl Trace {
@@ -72,7 +82,8 @@ impl Trace {
     /// by itself, and once that was given away those of events. A reader of traces reads each as
     /// what it says.
     pub fn text(&self) -> &[u8]
-        ensures { IsHeaderLine result.now ⊎ AreEventLines result.now }
+        ensures text { result.now ≡ self.now }
+        ensures lines { IsHeaderLine result.now ⊎ AreEventLines result.now }
     {
         if self.has_header {
             self.records.second.header()
