@@ -1,5 +1,5 @@
 -- What lines tell of the acknowledgments that packets brought: their spaces and ranges.
-use Rattle.std.specs.Prelude.{◌≡◌, ◌⊎◌, ◌++◌, ℕ, Bool, true, false, List, [], ◌∷◌}
+use Rattle.std.specs.Prelude.{◌≡◌, ◌⊎◌, ◌++◌, ℕ, Bool, false, List, [], ◌∷◌}
 use Rattle.std.specs.Prelude.{flat_map, if◌then◌else◌, map}
 use Rattle.qa_base.specs.declared.space.Space.{Space}
 use Rattle.qa_base.specs.declared.space.Space.TheVariants.{Initial, Handshake}
@@ -36,13 +36,7 @@ is_gone keys Initial = keys.initial_is_gone
 is_gone keys Handshake = keys.handshake_is_gone
 is_gone keys _ = false
 
--- all of them are told, or none, since the keys of the space are gone by then
-abbrev pub TellsAcks : Keys → LoggedPacket → Told → Told → Type 0
-TellsAcks keys p before after =
-    (acks_in after ≡ acks_in before ++ acked_by p)
-    ⊎ ((is_gone keys p.space ≡ true) × (acks_in after ≡ acks_in before))
-
--- all of them are told, or none
+-- all ACK frames of a packet have their lines, or none has one
 abbrev pub AllOrNone : LoggedPacket → Told → Told → Type 0
 AllOrNone p before after =
     (acks_in after ≡ acks_in before ++ acked_by p) ⊎ (acks_in after ≡ acks_in before)

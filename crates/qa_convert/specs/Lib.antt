@@ -1,9 +1,11 @@
+pub mod AckDelays
 pub mod Acking
 pub mod Clocks
 pub mod Flights
 pub mod Gathering
 pub mod Groups
 pub mod Guesses
+pub mod Losing
 pub mod Packets
 pub mod Orders
 pub mod Outputs

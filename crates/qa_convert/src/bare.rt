@@ -1,4 +1,8 @@
 //! The last packets of a space that were sent and are not in flight.
+ghost use Rattle.std.specs.Prelude.{◌≡◌, ◌||◌, ℕ, OnOk, false, nat_eq, true};
+ghost use Rattle.std.specs.BTreeSet.{contains};
+ghost use Rattle.std.specs.Ordering.{nat_cmp};
+
 use std::alloc::{AllocError, Global};
 use std::collections::{BTreeSet, VecDeque};
 
@@ -15,7 +19,9 @@ pub(crate) struct Bare {
 
 impl Bare {
     /// None. Takes no memory.
-    pub(crate) fn new(alloc: Global) -> Bare {
+    pub(crate) fn new(alloc: Global) -> Bare
+        ensures { (n : ℕ) → contains nat_cmp result.numbers n ≡ false }
+    {
         Bare {
             numbers: BTreeSet::new(alloc),
             order: VecDeque::new(alloc),
@@ -23,7 +29,10 @@ impl Bare {
     }
 
     /// A packet was sent.
-    pub(crate) fn add(&mut self, number: u64) -> Result<(), AllocError> {
+    pub(crate) fn add(&mut self, number: u64) -> Result<(), AllocError>
+        ensures { OnOk result ((n : ℕ) → contains nat_cmp self.new.numbers n ≡ true
+            → (contains nat_cmp self.old.numbers n || nat_eq n number) ≡ true) }
+    {
         if !self.numbers.insert(number)? {
             return Ok(());
         }
@@ -37,7 +46,9 @@ impl Bare {
     }
 
     /// Whether it is one of them.
-    pub(crate) fn has(&self, number: u64) -> bool {
+    pub(crate) fn has(&self, number: u64) -> bool
+        ensures { result ≡ contains nat_cmp self.now.numbers number }
+    {
         self.numbers.contains(&number)
     }
 }

@@ -1,6 +1,8 @@
 //! The second reading of a log: the lines of its events.
 ghost use Rattle.std.specs.Prelude.{◌≡◌, OnOk};
+ghost use Rattle.qa_convert.specs.AckDelays.{Answers, decoding_of};
 ghost use Rattle.qa_convert.specs.Acking.{Acknowledges};
+ghost use Rattle.qa_convert.specs.Losing.{Declares};
 ghost use Rattle.qa_convert.specs.Telling.{Writes, told_in};
 
 use crate::dialects::{Absent, Dialect, Limited};
@@ -155,6 +157,10 @@ impl Conversion {
             (told_in self.new.writing)) }
         ensures acks { OnOk result (Acknowledges group.about (told_in self.old.writing)
             (told_in self.new.writing)) }
+        ensures lost { OnOk result (Declares self.old.writing.bare group.about
+            group.beside.items (told_in self.old.writing) (told_in self.new.writing)) }
+        ensures delays { OnOk result (Answers (decoding_of self.old) group.about
+            (told_in self.old.writing) (told_in self.new.writing)) }
     {
         let Group { about, beside } = group;
         match about {
@@ -263,6 +269,7 @@ impl Conversion {
     /// A report of all values that are known. Before a sample a log says 0, or nothing.
     pub(crate) fn report(&mut self, time: u64) -> Result<(), NoLine>
         ensures told { OnOk result (told_in self.new.writing ≡ told_in self.old.writing) }
+        ensures bare { OnOk result (self.new.writing.bare ≡ self.old.writing.bare) }
     {
         let known = if self.has_sample {
             self.values

@@ -7,6 +7,7 @@ mod clock;
 mod connections;
 mod conversion;
 mod converting;
+mod decoding;
 mod dialects;
 mod event;
 mod finding;

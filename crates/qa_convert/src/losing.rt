@@ -1,5 +1,9 @@
 //! Losses that are declared, and the timers that find them.
-ghost use Rattle.std.specs.Prelude.{◌≡◌, OnOk};
+ghost use Rattle.std.specs.Prelude.{◌≡◌, ◌++◌, ℕ, IfNone, IfOk, OnOk, false};
+ghost use Rattle.std.specs.List.{list_any};
+ghost use Rattle.qa_base.specs.values.Events.{is_space};
+ghost use Rattle.qa_convert.specs.Losing.{ArePacketNumbers, Names, in_flight, in_space, is_among};
+ghost use Rattle.qa_convert.specs.Losing.{is_in, lost_in, packets_of, with_fit};
 ghost use Rattle.qa_convert.specs.Telling.{told_in};
 
 use crate::conversion::{Conversion, LATE_BY_PROGRAM, latest_of};
@@ -7,6 +11,7 @@ use crate::event::{At, Expiry, LoggedEvent, LostPacket, Said};
 use crate::groups::LostAt;
 use crate::guess::Guess;
 use crate::omission::{Limit, Omission};
+use crate::place::Place;
 use crate::receiving::losses_in;
 use crate::writing::{NoLine, spans_of};
 use qa_base::{Event, PerSpace, Space, TimerKind};
@@ -27,6 +32,9 @@ impl Conversion {
             ≡ (told_in self.old.writing).sent) }
         ensures acks { OnOk result ((told_in self.new.writing).acks
             ≡ (told_in self.old.writing).acks) }
+        ensures lost { OnOk result (Names (in_flight self.old.writing.bare
+            (packets_of losses.items ++ lost_in beside.items)) (told_in self.old.writing)
+            (told_in self.new.writing)) }
     {
         let events = joined(self.writing.alloc, losses, beside)?;
         if self.known.logs_timers {
@@ -41,6 +49,9 @@ impl Conversion {
             ≡ (told_in self.old.writing).sent) }
         ensures acks { OnOk result ((told_in self.new.writing).acks
             ≡ (told_in self.old.writing).acks) }
+        ensures lost { OnOk result (Names (in_flight self.old.writing.bare
+            (lost_in events.now)) (told_in self.old.writing) (told_in self.new.writing)) }
+        ensures bare { OnOk result (self.new.writing.bare ≡ self.old.writing.bare) }
     {
         let gap = self.known.gap;
         let mut begun = 0;
@@ -70,6 +81,9 @@ impl Conversion {
             ≡ (told_in self.old.writing).sent) }
         ensures acks { OnOk result ((told_in self.new.writing).acks
             ≡ (told_in self.old.writing).acks) }
+        ensures lost { OnOk result (Names (in_flight self.old.writing.bare
+            (lost_in events.now)) (told_in self.old.writing) (told_in self.new.writing)) }
+        ensures bare { OnOk result (self.new.writing.bare ≡ self.old.writing.bare) }
     {
         let Some(first) = events.first() else {
             return Ok(());
@@ -94,6 +108,9 @@ impl Conversion {
             ≡ (told_in self.old.writing).sent) }
         ensures acks { OnOk result ((told_in self.new.writing).acks
             ≡ (told_in self.old.writing).acks) }
+        ensures lost { OnOk result (Names (in_flight self.old.writing.bare
+            (packets_of losses.now)) (told_in self.old.writing) (told_in self.new.writing)) }
+        ensures bare { OnOk result (self.new.writing.bare ≡ self.old.writing.bare) }
     {
         match self.first_in_flight(losses) {
             Some(first) => self.show(first, losses)?,
@@ -105,6 +122,7 @@ impl Conversion {
     /// Writes the timer that found losses, if one can have.
     fn show(&mut self, first: LostAt, losses: &[LostAt]) -> Result<(), NoLine>
         ensures told { OnOk result (told_in self.new.writing ≡ told_in self.old.writing) }
+        ensures bare { OnOk result (self.new.writing.bare ≡ self.old.writing.bare) }
     {
         let LostAt { at, lost } = first;
         let largest = self.largest.of(lost.space).unwrap_or(0);
@@ -137,6 +155,8 @@ impl Conversion {
             ≡ (told_in self.old.writing).sent) }
         ensures acks { OnOk result ((told_in self.new.writing).acks
             ≡ (told_in self.old.writing).acks) }
+        ensures lost { OnOk result (Names (in_flight self.old.writing.bare
+            (lost_in beside.now)) (told_in self.old.writing) (told_in self.new.writing)) }
     {
         let losses = losses_in(self.writing.alloc, beside)?;
         let is_alone = self.first_in_flight(&losses).is_none();
@@ -171,6 +191,7 @@ impl Conversion {
         losses: &[LostAt],
     ) -> Result<(), NoLine>
         ensures told { OnOk result (told_in self.new.writing ≡ told_in self.old.writing) }
+        ensures bare { OnOk result (self.new.writing.bare ≡ self.old.writing.bare) }
     {
         let found = self.see_first(losses);
         let space = self.space_of_timer(expiry, kind, found)?;
@@ -215,6 +236,7 @@ impl Conversion {
         found: Option<Space>,
     ) -> Result<Space, AllocError>
         ensures told { OnOk result (told_in self.new.writing ≡ told_in self.old.writing) }
+        ensures bare { OnOk result (self.new.writing.bare ≡ self.old.writing.bare) }
     {
         if let Some(space) = expiry.space {
             return Ok(space);
@@ -237,6 +259,9 @@ impl Conversion {
             ≡ (told_in self.old.writing).sent) }
         ensures acks { OnOk result ((told_in self.new.writing).acks
             ≡ (told_in self.old.writing).acks) }
+        ensures lost { OnOk result (Names (in_flight self.old.writing.bare
+            (packets_of losses.now)) (told_in self.old.writing) (told_in self.new.writing)) }
+        ensures bare { OnOk result (self.new.writing.bare ≡ self.old.writing.bare) }
     {
         self.write_lost(at.time, losses)?;
         if self.take_beside(beside) {
@@ -251,6 +276,9 @@ impl Conversion {
             ≡ (told_in self.old.writing).sent) }
         ensures acks { OnOk result ((told_in self.new.writing).acks
             ≡ (told_in self.old.writing).acks) }
+        ensures lost { OnOk result (Names (in_flight self.old.writing.bare
+            (packets_of losses.now)) (told_in self.old.writing) (told_in self.new.writing)) }
+        ensures bare { OnOk result (self.new.writing.bare ≡ self.old.writing.bare) }
     {
         let kept = self.losses_in_flight(losses)?;
         if !kept.is_empty() {
@@ -274,6 +302,9 @@ impl Conversion {
     /// The losses but for those of packets that are not in flight.
     fn losses_in_flight(&mut self, losses: &[LostAt]) -> Result<Vec<LostAt>, AllocError>
         ensures told { OnOk result (told_in self.new.writing ≡ told_in self.old.writing) }
+        ensures bare { OnOk result (self.new.writing.bare ≡ self.old.writing.bare) }
+        ensures kept { IfOk result (λ kept. packets_of kept.items
+            ≡ in_flight self.old.writing.bare (packets_of losses.now)) }
     {
         let mut kept = Vec::new(self.writing.alloc);
         for it in losses {
@@ -301,26 +332,44 @@ impl Conversion {
             ≡ (told_in self.old.writing).sent) }
         ensures acks { OnOk result ((told_in self.new.writing).acks
             ≡ (told_in self.old.writing).acks) }
+        ensures lost { OnOk result (Names (in_space space (packets_of losses.now))
+            (told_in self.old.writing) (told_in self.new.writing)) }
+        ensures bare { OnOk result (self.new.writing.bare ≡ self.old.writing.bare) }
     {
         let numbers = numbers_of(self.writing.alloc, space, losses)?;
-        let (Some(first), Some(last)) = (first_of(space, losses), last_of(space, losses)) else {
+        let Some(first) = first_of(space, losses) else {
+            return Ok(());
+        };
+        let Some(last) = last_of(space, losses) else {
             return Ok(());
         };
         let time = self.writing.next_time(nanoseconds)?;
         let ranges = spans_of(self.writing.alloc, &numbers)?;
-        let event = Event::Lost {
-            time,
-            space,
-            ranges,
-        };
-        if event.fits() {
-            self.writing
-                .output
-                .write(event, first.at.place, last.at.place)?;
-        }
+        self.put_lost(
+            Event::Lost {
+                time,
+                space,
+                ranges,
+            },
+            first.at.place,
+            last.at.place,
+        )?;
         for number in &numbers {
             self.writing.flights.of_mut(space).take(*number);
         }
+        Ok(())
+    }
+
+    /// Writes the line of losses, if it names a packet.
+    fn put_lost(&mut self, event: Event, first: Place, last: Place) -> Result<(), NoLine>
+        ensures told { OnOk result (told_in self.new.writing
+            ≡ with_fit (told_in self.old.writing) event) }
+        ensures bare { OnOk result (self.new.writing.bare ≡ self.old.writing.bare) }
+    {
+        if !event.fits() {
+            return Ok(());
+        }
+        self.writing.output.write(event, first, last)?;
         Ok(())
     }
 }
@@ -330,9 +379,12 @@ fn joined(
     alloc: Global,
     losses: Vec<LostAt>,
     beside: Vec<LoggedEvent>,
-) -> Result<Vec<LoggedEvent>, AllocError> {
+) -> Result<Vec<LoggedEvent>, AllocError>
+    ensures { IfOk result (λ events. lost_in events.items
+        ≡ packets_of losses.items ++ lost_in beside.items) }
+{
     let mut events = Vec::new(alloc);
-    for it in losses {
+    for it in &losses {
         events.push(LoggedEvent {
             at: it.at,
             said: Said::Lost(it.lost),
@@ -345,7 +397,11 @@ fn joined(
 }
 
 /// The numbers of the losses of a space, which rise.
-fn numbers_of(alloc: Global, space: Space, losses: &[LostAt]) -> Result<Vec<u64>, AllocError> {
+fn numbers_of(alloc: Global, space: Space, losses: &[LostAt]) -> Result<Vec<u64>, AllocError>
+    ensures numbers { IfOk result (λ numbers. (n : ℕ) → is_in n numbers.items
+        ≡ is_among space n (packets_of losses.now)) }
+    ensures small { IfOk result (λ numbers. ArePacketNumbers numbers.items) }
+{
     let mut sorted = BTreeSet::new(alloc);
     for it in losses {
         if it.lost.space == space {
@@ -360,17 +416,28 @@ fn numbers_of(alloc: Global, space: Space, losses: &[LostAt]) -> Result<Vec<u64>
 }
 
 /// The first loss of a space.
-fn first_of(space: Space, losses: &[LostAt]) -> Option<LostAt> {
-    losses.iter().find(|it| it.lost.space == space).copied()
+fn first_of(space: Space, losses: &[LostAt]) -> Option<LostAt>
+    ensures { IfNone result (list_any (λ l. is_space space l.lost.space) losses.now ≡ false) }
+{
+    for it in losses {
+        if it.lost.space == space {
+            return Some(*it);
+        }
+    }
+    None
 }
 
 /// The last loss of a space.
-fn last_of(space: Space, losses: &[LostAt]) -> Option<LostAt> {
-    losses
-        .iter()
-        .rev()
-        .find(|it| it.lost.space == space)
-        .copied()
+fn last_of(space: Space, losses: &[LostAt]) -> Option<LostAt>
+    ensures { IfNone result (list_any (λ l. is_space space l.lost.space) losses.now ≡ false) }
+{
+    let mut last = None;
+    for it in losses {
+        if it.lost.space == space {
+            last = Some(*it);
+        }
+    }
+    last
 }
 
 /// Whether an event is a loss, also of a packet of no space.

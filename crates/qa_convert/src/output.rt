@@ -24,7 +24,7 @@ use std::alloc::{AllocError, Global};
 pub(crate) struct Output {
     alloc: Global,
     /// The unit of the trace.
-    unit: TimeUnit,
+    pub(crate) unit: TimeUnit,
     /// Whether each line says where in the log it is from.
     has_places: bool,
     /// The lines of events.
@@ -54,10 +54,7 @@ impl Output {
     pub(crate) fn in_unit(&self, nanoseconds: u64) -> u64
         ensures { result ≡ in_unit self.now.unit nanoseconds }
     {
-        match self.unit {
-            TimeUnit::Microseconds => nanoseconds / 1_000,
-            TimeUnit::Nanoseconds => nanoseconds,
-        }
+        in_unit_of(self.unit, nanoseconds)
     }
 
     /// The next line says that this was guessed. `AllocError` comes if it is out of memory, and
@@ -226,5 +223,15 @@ impl Output {
         ensures { result ≡ are_of_line self.now.guesses.items }
     {
         self.guesses.iter().any(|guess| guess.is_of_line())
+    }
+}
+
+/// A time or a duration as a trace of this unit has it, rounded down.
+pub(crate) fn in_unit_of(unit: TimeUnit, nanoseconds: u64) -> u64
+    ensures { result ≡ in_unit unit nanoseconds }
+{
+    match unit {
+        TimeUnit::Microseconds => nanoseconds / 1_000,
+        TimeUnit::Nanoseconds => nanoseconds,
     }
 }

@@ -1,10 +1,15 @@
 //! Packets that come, and what their ACK frames say.
-ghost use Rattle.std.specs.Prelude.{◌≡◌, ◌≤◌, ◌++◌, OnOk, length};
-ghost use Rattle.qa_convert.specs.Acking.{AllOrNone, TellsAcks, acked, acked_by, acks_in, named};
+ghost use Rattle.std.specs.Prelude.{◌≡◌, ◌<◌, ◌≤◌, ◌++◌, ◌∷◌, [], IfOk, OnOk, length};
+ghost use Rattle.qa_convert.specs.AckDelays.{AddsAcks, AddsAllOrNone, IsDelayOf, TellsAcks};
+ghost use Rattle.qa_convert.specs.AckDelays.{decoding_of, lines_of};
+ghost use Rattle.qa_convert.specs.Acking.{AllOrNone};
+ghost use Rattle.qa_convert.specs.Losing.{Leaves, NamesOnly, lost_in, packets_of};
 ghost use Rattle.qa_convert.specs.Telling.{told_in};
 
 use crate::conversion::{Conversion, LATE_BY_PROGRAM};
+use crate::decoding::Decoding;
 use crate::event::{At, LoggedEvent, LostPacket, Said};
+use crate::flight::Flying;
 use crate::groups::{LostAt, PacketAt};
 use crate::guess::Guess;
 use crate::handshake::Change;
@@ -37,9 +42,14 @@ impl Conversion {
     ) -> Result<(), NoLine>
         ensures acks { OnOk result (AllOrNone packet.now.packet (told_in self.old.writing)
             (told_in self.new.writing)) }
+        ensures delays { OnOk result (AddsAllOrNone (decoding_of self.old) packet.now.packet
+            (told_in self.old.writing) (told_in self.new.writing)) }
         ensures sent { OnOk result ((told_in self.new.writing).sent
             ≡ (told_in self.old.writing).sent) }
+        ensures lost { OnOk result (NamesOnly (packets_of before.items ++ lost_in beside.now)
+            (told_in self.old.writing) (told_in self.new.writing)) }
     {
+        let decoding = self.decoding();
         self.has_come = true;
         let (beside, later) = beside.split_at(self.shown_part(packet, beside));
         let lost = self.lost_before(packet, before, beside)?;
@@ -47,14 +57,28 @@ impl Conversion {
         let held = self.values;
         let in_flight = self.writing.flights.bytes();
         let is_reported = self.take_beside(beside);
-        let lost = or_among(self.writing.alloc, lost, beside)?;
-        self.write_acks(packet, held, lost)?;
         let before = Before {
             held,
             in_flight,
             is_reported,
+            decoding,
         };
+        let lost = or_among(self.writing.alloc, lost, beside)?;
+        self.write_acks(packet, before, lost)?;
         self.after_acks(packet, before, beside, later)
+    }
+
+    /// By what the delays of ACK frames are decoded.
+    fn decoding(&self) -> Decoding
+        ensures { result ≡ decoding_of self.now }
+    {
+        Decoding {
+            subtracts: self.terms.dialect.subtracts_delay,
+            is_encoded: self.terms.dialect.delay_is_encoded,
+            exponent: self.known.delay_exponent,
+            unit: self.writing.output.unit,
+            has_cut_times: self.known.has_cut_times,
+        }
     }
 
     /// A packet of the Handshake space shows that its keys are there.
@@ -79,6 +103,8 @@ impl Conversion {
             ≡ (told_in self.old.writing).acks) }
         ensures sent { OnOk result ((told_in self.new.writing).sent
             ≡ (told_in self.old.writing).sent) }
+        ensures lost { OnOk result (NamesOnly (lost_in later.now) (told_in self.old.writing)
+            (told_in self.new.writing)) }
     {
         if before.is_reported && self.writing.flights.bytes() < before.in_flight {
             self.take_zero();
@@ -106,6 +132,8 @@ impl Conversion {
             ≡ (told_in self.old.writing).sent) }
         ensures acks { OnOk result ((told_in self.new.writing).acks
             ≡ (told_in self.old.writing).acks) }
+        ensures lost { IfOk result (λ left. Leaves (packets_of before.items)
+            (packets_of left.items) (told_in self.old.writing) (told_in self.new.writing)) }
     {
         let Some(first) = before.first() else {
             return Ok(before);
@@ -122,17 +150,17 @@ impl Conversion {
     fn write_acks(
         &mut self,
         packet: &PacketAt,
-        held: Values,
+        before: Before,
         lost: Vec<LostAt>,
     ) -> Result<(), NoLine>
-        ensures acks { OnOk result (TellsAcks self.new.keys packet.now.packet
+        ensures acks { OnOk result (TellsAcks before.decoding self.new.keys packet.now.packet
             (told_in self.old.writing) (told_in self.new.writing)) }
         ensures sent { OnOk result ((told_in self.new.writing).sent
             ≡ (told_in self.old.writing).sent) }
+        ensures lost { OnOk result (NamesOnly (packets_of lost.items) (told_in self.old.writing)
+            (told_in self.new.writing)) }
     {
-        if self.keys.awaits_discard() {
-            self.settle_received(packet, &lost)?;
-        }
+        self.settle_received(packet, &lost)?;
         if packet.packet.acks.is_empty() {
             return match lost.first() {
                 Some(first) => self.lost_alone(first.at, &lost, &[]),
@@ -142,19 +170,26 @@ impl Conversion {
         if self.keys.are_gone(packet.packet.space) {
             return Ok(pass_over(&mut self.writing, &packet.packet.acks)?);
         }
-        self.write_each(packet, held, &lost)
+        self.write_each(packet, before, &lost)
     }
 
     /// Writes the lines of the ACK frames of a packet, and of the losses that the first shows.
-    fn write_each(&mut self, packet: &PacketAt, held: Values, lost: &[LostAt]) -> Result<(), NoLine>
-        ensures acks { OnOk result (acks_in (told_in self.new.writing)
-            ≡ acks_in (told_in self.old.writing) ++ acked_by packet.now.packet) }
+    fn write_each(
+        &mut self,
+        packet: &PacketAt,
+        before: Before,
+        lost: &[LostAt],
+    ) -> Result<(), NoLine>
+        ensures acks { OnOk result (AddsAcks before.decoding packet.now.packet.space
+            packet.now.packet.acks.items (told_in self.old.writing) (told_in self.new.writing)) }
         ensures sent { OnOk result ((told_in self.new.writing).sent
             ≡ (told_in self.old.writing).sent) }
+        ensures lost { OnOk result (NamesOnly (packets_of lost.now) (told_in self.old.writing)
+            (told_in self.new.writing)) }
     {
         let mut lost = lost;
         for ack in &packet.packet.acks {
-            self.write_ack(packet, ack, held, lost)?;
+            self.write_ack(packet, ack, before, lost)?;
             lost = &[];
         }
         Ok(())
@@ -243,6 +278,9 @@ impl Conversion {
     fn settle_received(&mut self, packet: &PacketAt, lost: &[LostAt]) -> Result<(), NoLine>
         ensures told { OnOk result (told_in self.new.writing ≡ told_in self.old.writing) }
     {
+        if !self.keys.awaits_discard() {
+            return Ok(());
+        }
         let taken = self.leaving(packet, lost)?;
         let level = self.values.bytes.in_flight;
         self.keys.settle(
@@ -284,13 +322,15 @@ impl Conversion {
         &mut self,
         packet: &PacketAt,
         ack: &LoggedAck,
-        held: Values,
+        before: Before,
         lost: &[LostAt],
     ) -> Result<(), NoLine>
-        ensures acks { OnOk result (acks_in (told_in self.new.writing)
-            ≡ acks_in (told_in self.old.writing) ++ acked packet.now.packet.space ack.now) }
+        ensures acks { OnOk result (AddsAcks before.decoding packet.now.packet.space
+            (ack.now ∷ []) (told_in self.old.writing) (told_in self.new.writing)) }
         ensures sent { OnOk result ((told_in self.new.writing).sent
             ≡ (told_in self.old.writing).sent) }
+        ensures lost { OnOk result (NamesOnly (packets_of lost.now) (told_in self.old.writing)
+            (told_in self.new.writing)) }
     {
         let space = packet.packet.space;
         let Some(top) = top_in(ack) else {
@@ -298,30 +338,20 @@ impl Conversion {
         };
         let sent = self.writing.flights.of(space).get(top);
         self.writing.flights.take_named(space, &ack.ranges);
-        let (nanoseconds, delay) = match sent {
-            Some(sent) => self.settled(
-                packet.at,
-                space,
-                top,
-                Answer {
-                    ack,
-                    sent: sent.time,
-                    held,
-                    lost,
-                },
-            )?,
-            None => (
-                self.moment(packet.at, space, top, lost)?,
-                self.delay(space, ack),
-            ),
+        let answer = Answer {
+            ack,
+            top,
+            before,
+            lost,
         };
-        let app_limited = self.is_limited(held.bytes.window)? && lost.is_empty();
+        let (nanoseconds, delay) = self.came(packet, sent, answer)?;
+        let app_limited = self.is_limited(before.held.bytes.window)? && lost.is_empty();
         let time = self.writing.next_time(nanoseconds)?;
         let answer = Ack {
             time,
             space,
             ranges: ack.ranges.duplicate(self.writing.alloc)?,
-            delay: self.writing.output.in_unit(delay),
+            delay: before.decoding.in_unit(delay),
             app_limited,
         };
         self.put_ack(packet.at.place, answer)?;
@@ -333,10 +363,12 @@ impl Conversion {
 
     /// Writes the line of an acknowledgment, if it names a packet.
     fn put_ack(&mut self, place: Place, answer: Ack) -> Result<(), NoLine>
-        ensures acks { OnOk result (acks_in (told_in self.new.writing)
-            ≡ acks_in (told_in self.old.writing) ++ named answer.space answer.ranges) }
+        ensures acks { OnOk result ((told_in self.new.writing).acks
+            ≡ (told_in self.old.writing).acks ++ lines_of answer) }
         ensures sent { OnOk result ((told_in self.new.writing).sent
             ≡ (told_in self.old.writing).sent) }
+        ensures lost { OnOk result ((told_in self.new.writing).lost
+            ≡ (told_in self.old.writing).lost) }
     {
         let event = Event::Ack(answer);
         if !event.fits() {
@@ -346,29 +378,54 @@ impl Conversion {
         Ok(())
     }
 
+    /// When an acknowledgment came, and its delay, in nanoseconds.
+    fn came(
+        &mut self,
+        packet: &PacketAt,
+        sent: Option<Flying>,
+        answer: Answer<'_>,
+    ) -> Result<(u64, u64), AllocError>
+        ensures told { OnOk result (told_in self.new.writing ≡ told_in self.old.writing) }
+        ensures delay { IfOk result (λ came. IsDelayOf answer.entry.before.decoding
+            packet.now.packet.space answer.entry.ack.now came.1) }
+    {
+        match sent {
+            Some(sent) => self.settled(packet, sent.time, answer),
+            None => {
+                let space = packet.packet.space;
+                let time = self.moment(packet.at, space, answer.top, answer.lost)?;
+                Ok((time, answer.before.decoding.delay(space, answer.ack)))
+            }
+        }
+    }
+
     /// When an acknowledgment came whose largest packet was in flight, and its delay, both as the
     /// reports show them.
     fn settled(
         &mut self,
-        at: At,
-        space: Space,
-        top: u64,
+        packet: &PacketAt,
+        sent: u64,
         answer: Answer<'_>,
     ) -> Result<(u64, u64), AllocError>
         ensures told { OnOk result (told_in self.new.writing ≡ told_in self.old.writing) }
+        ensures delay { IfOk result (λ came. IsDelayOf answer.entry.before.decoding
+            packet.now.packet.space answer.entry.ack.now came.1) }
     {
+        let Before { held, decoding, .. } = answer.before;
+        let space = packet.packet.space;
         let smoothed = self.values.rtts.smoothed.unwrap_or(0);
-        let mut time = at.time;
-        if time.saturating_sub(answer.sent) < smoothed {
-            time = self.moment(at, space, top, answer.lost)?;
+        let mut time = packet.at.time;
+        if time.saturating_sub(sent) < smoothed {
+            time = self.moment(packet.at, space, answer.top, answer.lost)?;
         }
-        let mut delay = self.delay(space, answer.ack);
+        let delay = decoding.delay(space, answer.ack);
         if self.terms.dialect.is_read_late {
-            time = self.arrival(time, answer.sent, delay, answer.held)?;
+            time = self.arrival(time, sent, delay, held)?;
         }
-        if self.known.has_cut_times {
-            delay = self.settled_delay(time.saturating_sub(answer.sent), delay, answer.held)?;
+        if !decoding.has_cut_times {
+            return Ok((time, delay));
         }
+        let delay = self.settled_delay(time.saturating_sub(sent), delay, held)?;
         Ok((time, delay))
     }
 
@@ -384,6 +441,7 @@ impl Conversion {
         lost: &[LostAt],
     ) -> Result<u64, AllocError>
         ensures told { OnOk result (told_in self.new.writing ≡ told_in self.old.writing) }
+        ensures bare { OnOk result (self.new.writing.bare ≡ self.old.writing.bare) }
     {
         let rtt = self.values.greater_rtt();
         let Some(earlier) = at.time.checked_sub(EARLIER) else {
@@ -435,21 +493,6 @@ impl Conversion {
         Ok(came)
     }
 
-    /// The delay of an acknowledgment by the log, in nanoseconds.
-    fn delay(&self, space: Space, ack: &LoggedAck) -> u64 {
-        if !*self.terms.dialect.subtracts_delay.of(space) {
-            return 0;
-        }
-        if !self.terms.dialect.delay_is_encoded {
-            return ack.delay;
-        }
-        let mut delay = ack.delay;
-        for _ in 0..self.known.delay_exponent.min(20) {
-            delay = delay.saturating_mul(2);
-        }
-        delay
-    }
-
     /// The delay by which a sample was computed, as the reports before and after it show.
     fn settled_delay(&mut self, latest: u64, delay: u64, held: Values) -> Result<u64, AllocError>
         ensures told { OnOk result (told_in self.new.writing ≡ told_in self.old.writing) }
@@ -487,7 +530,11 @@ fn or_among(
     alloc: Global,
     lost: Vec<LostAt>,
     events: &[LoggedEvent],
-) -> Result<Vec<LostAt>, AllocError> {
+) -> Result<Vec<LostAt>, AllocError>
+    ensures some { 0 < length lost.items → IfOk result (λ losses. losses.items ≡ lost.items) }
+    ensures none { length lost.items ≡ 0
+        → IfOk result (λ losses. packets_of losses.items ≡ lost_in events.now) }
+{
     if lost.is_empty() {
         losses_in(alloc, events)
     } else {
@@ -496,21 +543,22 @@ fn or_among(
 }
 
 /// What was known before the ACK frames of a packet were taken in: the last report, the bytes in
-/// flight, and whether a report is beside the packet.
+/// flight, whether a report is beside the packet, and by what delays are decoded.
 #[derive(Clone, Copy)]
 struct Before {
     held: Values,
     in_flight: u128,
     is_reported: bool,
+    decoding: Decoding,
 }
 
-/// An ACK frame whose largest packet was in flight: when that was sent, what was known before the
-/// packet came, and the losses that it shows.
+/// An ACK frame, the largest number that it names, what was known before its packet came, and the
+/// losses that it shows.
 #[derive(Clone, Copy)]
 struct Answer<'a> {
     ack: &'a LoggedAck,
-    sent: u64,
-    held: Values,
+    top: u64,
+    before: Before,
     lost: &'a [LostAt],
 }
 
@@ -570,7 +618,9 @@ fn is_acknowledged(packet: &LoggedPacket, lost: LostPacket) -> bool {
 }
 
 /// The losses among events.
-pub(crate) fn losses_in(alloc: Global, events: &[LoggedEvent]) -> Result<Vec<LostAt>, AllocError> {
+pub(crate) fn losses_in(alloc: Global, events: &[LoggedEvent]) -> Result<Vec<LostAt>, AllocError>
+    ensures { IfOk result (λ losses. packets_of losses.items ≡ lost_in events.now) }
+{
     let mut losses = Vec::new(alloc);
     for event in events {
         if let Said::Lost(lost) = &event.said {

@@ -489,6 +489,7 @@ impl Conversion {
         nanoseconds: u64,
     ) -> Result<(), NoLine>
         ensures told { OnOk result (told_in self.new.writing ≡ told_in self.old.writing) }
+        ensures bare { OnOk result (self.new.writing.bare ≡ self.old.writing.bare) }
     {
         let time = self.writing.next_time(nanoseconds)?;
         let event = Event::Timer { time, kind, space };

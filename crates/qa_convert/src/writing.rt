@@ -1,5 +1,10 @@
 //! Lines as they are written: their times, what was guessed, and what is in flight behind them.
-ghost use Rattle.std.specs.Prelude.{◌≡◌, OnOk};
+ghost use Rattle.std.specs.Prelude.{◌≡◌, ◌≤◌, ◌&&◌, ◌||◌, ℕ, IfOk, OnOk, Some, nat_eq, true};
+ghost use Rattle.qa_base.specs.declared.space.Space.{Space as ASpace};
+ghost use Rattle.qa_base.specs.values.Events.{is_named, is_space};
+ghost use Rattle.qa_base.specs.values.Limits.{max_packet_number};
+ghost use Rattle.qa_convert.specs.Losing.{ArePacketNumbers, IsSpan, has_number, is_bare, is_in};
+ghost use Rattle.qa_convert.specs.Losing.{pushed};
 ghost use Rattle.qa_convert.specs.Telling.{told_in};
 
 use crate::bare::Bare;
@@ -80,6 +85,7 @@ impl Writing {
     /// The next line says that this was guessed.
     pub(crate) fn guess(&mut self, guess: Guess) -> Result<(), AllocError>
         ensures told { OnOk result (told_in self.new ≡ told_in self.old) }
+        ensures bare { OnOk result (self.new.bare ≡ self.old.bare) }
     {
         self.notes.guess(guess)?;
         self.output.guess(guess)
@@ -88,6 +94,7 @@ impl Writing {
     /// Counts what is left out.
     pub(crate) fn omit(&mut self, omission: Omission) -> Result<(), AllocError>
         ensures told { OnOk result (told_in self.new ≡ told_in self.old) }
+        ensures bare { OnOk result (self.new.bare ≡ self.old.bare) }
     {
         self.notes.omit(omission, 1)
     }
@@ -122,6 +129,7 @@ impl Writing {
     /// The time of the next line, which does not go back.
     pub(crate) fn next_time(&mut self, nanoseconds: u64) -> Result<Ticks, NoLine>
         ensures told { OnOk result (told_in self.new ≡ told_in self.old) }
+        ensures bare { OnOk result (self.new.bare ≡ self.old.bare) }
     {
         let mut time = self.output.in_unit(nanoseconds);
         if time < self.time {
@@ -138,12 +146,16 @@ impl Writing {
     /// A packet was sent that is not in flight.
     pub(crate) fn add_bare(&mut self, space: Space, number: u64) -> Result<(), AllocError>
         ensures told { OnOk result (told_in self.new ≡ told_in self.old) }
+        ensures bare { OnOk result ((s : ASpace) (n : ℕ) → is_bare self.new.bare s n ≡ true
+            → (is_bare self.old.bare s n || (is_space s space && nat_eq n number)) ≡ true) }
     {
         self.bare.of_mut(space).add(number)
     }
 
     /// Whether a packet was sent that is not in flight.
-    pub(crate) fn has_bare(&self, space: Space, number: u64) -> bool {
+    pub(crate) fn has_bare(&self, space: Space, number: u64) -> bool
+        ensures { result ≡ is_bare self.now.bare space number }
+    {
         self.bare.of(space).has(number)
     }
 
@@ -155,6 +167,7 @@ impl Writing {
         values: Values,
     ) -> Result<(), NoLine>
         ensures told { OnOk result (told_in self.new ≡ told_in self.old) }
+        ensures bare { OnOk result (self.new.bare ≡ self.old.bare) }
     {
         let time = self.next_time(nanoseconds)?;
         let values = self.in_unit(values);
@@ -223,18 +236,14 @@ impl Writing {
 }
 
 /// Numbers that rise, as spans of numbers one behind another; none above 2^62 - 1 is there.
-pub(crate) fn spans_of(alloc: Global, numbers: &[u64]) -> Result<Spans, AllocError> {
+pub(crate) fn spans_of(alloc: Global, numbers: &[u64]) -> Result<Spans, AllocError>
+    ensures { IfOk result (λ spans. ArePacketNumbers numbers.now
+        → (n : ℕ) → is_named spans n ≡ is_in n numbers.now) }
+{
     let mut spans = Spans::new(alloc);
     let mut open: Option<(u64, u64)> = None;
     for number in numbers {
-        open = match open {
-            Some((low, high)) if high.checked_add(1) == Some(*number) => Some((low, *number)),
-            Some((low, high)) => {
-                push_span(&mut spans, low, high)?;
-                Some((*number, *number))
-            }
-            None => Some((*number, *number)),
-        };
+        open = Some(with_number(&mut spans, open, *number)?);
     }
     if let Some((low, high)) = open {
         push_span(&mut spans, low, high)?;
@@ -242,8 +251,32 @@ pub(crate) fn spans_of(alloc: Global, numbers: &[u64]) -> Result<Spans, AllocErr
     Ok(spans)
 }
 
+/// The last span once a number goes on with it, or begins another.
+fn with_number(
+    spans: &mut Spans,
+    last: Option<(u64, u64)>,
+    number: u64,
+) -> Result<(u64, u64), AllocError>
+    ensures span { IfOk result (λ span. IsSpan last → number ≤ max_packet_number
+        → IsSpan (Some span)) }
+    ensures numbers { IfOk result (λ span. IsSpan last → number ≤ max_packet_number
+        → (n : ℕ) → has_number spans.new (Some span) n
+        ≡ (has_number spans.old last n || nat_eq n number)) }
+{
+    let Some((low, high)) = last else {
+        return Ok((number, number));
+    };
+    if high < number && number - high == 1 {
+        return Ok((low, number));
+    }
+    push_span(spans, low, high)?;
+    Ok((number, number))
+}
+
 /// Appends a span, if both its ends are packet numbers.
-fn push_span(spans: &mut Spans, low: u64, high: u64) -> Result<(), AllocError> {
+fn push_span(spans: &mut Spans, low: u64, high: u64) -> Result<(), AllocError>
+    ensures { OnOk result (spans.new ≡ pushed low high spans.old) }
+{
     if let (Some(low), Some(high)) = (PacketNumber::new(low), PacketNumber::new(high)) {
         if let Some(span) = Span::new(low, high) {
             spans.push(span)?;

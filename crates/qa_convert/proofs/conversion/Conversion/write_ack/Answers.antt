@@ -1,22 +1,40 @@
-use Rattle.std.proofs.Common.{◌≡◌, ◌∙◌, ◌++◌, ap, map}
+use Rattle.std.proofs.Common.{◌≡◌, ◌∙◌, ◌++◌, [], ap, refl}
 use Rattle.std.proofs.lemmas.Result.{on_ok_weaker}
-use Rattle.qa_convert.specs.Acking.{ack_key, acks_in, named}
-use Rattle.qa_convert.specs.Telling.{told_in}
-use Rattle.qa_convert.specs.declared.conversion.Conversion.{Conversion}
+use Rattle.qa_base.specs.declared.event.Ack.{Ack}
+use Rattle.qa_convert.proofs.Delayed.{one_added}
+use Rattle.qa_convert.proofs.Losses.{names_only, only_from}
+use Rattle.qa_convert.specs.AckDelays.{lines_of}
+use Rattle.qa_convert.specs.Losing.{packets_of}
+use Rattle.qa_convert.specs.Outputs.{in_unit}
+use Rattle.qa_convert.specs.Telling.{Told, told_in}
 use Rattle.qa_convert.proofs.conversion.Conversion.write_ack.Goals as goal
-use Rattle.qa_convert.proofs.conversion.Conversion.write_ack.Goals.{in-Some-sent+in_ok-settled-in-Some-sent, in-None+in_ok-moment-in-None}
 
 pub returns-clause-acks : goal.returns-clause-acks
 returns-clause-acks c =
-    let begun : told_in c.match-sent.self.writing ≡ told_in c.args.self.now.writing =
-    elim c.match-sent.branch [
-      | in-Some-sent+in_ok-settled-in-Some-sent w ↦ ap (λ (x : Conversion). told_in x.writing) w.self-is ∙ w.in_ok-settled-in-Some-sent.ensures.told
-      | in-None+in_ok-moment-in-None w ↦ ap (λ (x : Conversion). told_in x.writing) w.self-is ∙ w.in_ok-moment-in-None.ensures.told
-    ] in
-    let told : told_in c.next_time.new.self ≡ told_in c.args.self.now.writing = c.in_ok-time.ensures.told ∙ c.in_ok-app_limited.ensures.told ∙ begun in
+    let d = c.args.before.decoding in
+    let s = c.args.packet.now.packet.space in
+    let answer : Ack = record {
+      time = c.in_ok-time.time;
+      space = s;
+      ranges = c.in_ok-duplicate.field-0;
+      delay = c.in_unit.result;
+      app_limited = c.if-branch.app_limited;
+    } in
+    let told : told_in c.next_time.new.self ≡ told_in c.args.self.now.writing = c.in_ok-time.ensures.told ∙ c.in_ok-app_limited.ensures.told ∙ c.in_ok-nanoseconds.ensures.told in
     on_ok_weaker c.write_lost.result
     (λ same.
-    ap (map ack_key) same ∙ c.in_ok-put_ack.ensures.acks
-    ∙ ap (λ t. acks_in t ++ named c.args.packet.now.packet.space c.in_ok-duplicate.field-0) told
-    ∙ ap (λ ranges. acks_in (told_in c.args.self.now.writing) ++ named c.args.packet.now.packet.space ranges) c.in_ok-duplicate.ensures)
+    one_added d s c.args.ack.now answer (told_in c.args.self.now.writing) (told_in c.write_lost.new.self.writing) refl c.in_ok-duplicate.ensures
+    (λ uncut. c.in_unit.ensures ∙ ap (in_unit d.unit) (c.in_ok-nanoseconds.ensures.delay uncut))
+    (same ∙ c.in_ok-put_ack.ensures.acks ∙ ap (λ (t : Told). t.acks ++ lines_of answer) told))
     c.write_lost.ensures.acks
+
+pub returns-clause-lost : goal.returns-clause-lost
+returns-clause-lost c =
+    let told : told_in c.next_time.new.self ≡ told_in c.args.self.now.writing = c.in_ok-time.ensures.told ∙ c.in_ok-app_limited.ensures.told ∙ c.in_ok-nanoseconds.ensures.told in
+    let ps = packets_of c.args.lost.now in
+    on_ok_weaker c.write_lost.result
+    (λ all.
+    only_from ps [] (told_in c.args.self.now.writing) (told_in c.put_ack.new.self.writing) (told_in c.write_lost.new.self.writing)
+    (c.in_ok-put_ack.ensures.lost ∙ ap (λ (t : Told). t.lost) told)
+    (names_only c.put_ack.new.self.writing.bare ps (told_in c.put_ack.new.self.writing) (told_in c.write_lost.new.self.writing) all))
+    c.write_lost.ensures.lost

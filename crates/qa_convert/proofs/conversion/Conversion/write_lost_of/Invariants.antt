@@ -3,4 +3,7 @@ use Rattle.qa_convert.specs.Telling.{told_in}
 use Rattle.qa_convert.proofs.conversion.Conversion.write_lost_of.Given as goal
 
 abbrev pub invariant-loop-number : goal.invariant-loop-number
-invariant-loop-number l = told_in l.self.writing ≡ told_in l.initial.self.writing
+invariant-loop-number l = record {
+  told : told_in l.self.writing ≡ told_in l.initial.self.writing;
+  bare : l.self.writing.bare ≡ l.initial.self.writing.bare;
+}

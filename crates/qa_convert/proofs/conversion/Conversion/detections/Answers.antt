@@ -1,0 +1,28 @@
+use Rattle.std.proofs.Common.{◌≤◌, ◌∙◌, arith, length}
+use Rattle.qa_convert.proofs.Losses.{detected_all, detected_more}
+use Rattle.qa_convert.proofs.conversion.Conversion.detections.Goals as goal
+use Rattle.qa_convert.proofs.conversion.Conversion.detections.Goals.{in-Some+then-gap-saturating_sub+then-begun-place+in_ok-detected, in-Some+else-gap-saturating_sub, in_default}
+
+pub loop-place-preserved : goal.loop-place-preserved
+loop-place-preserved c =
+    let was = c.loop-place.invariant in
+    let end : c.loop-place.place ≤ length c.args.events.now = omega arith in
+    elim c.match-last.branch [
+      | in-Some+then-gap-saturating_sub+then-begun-place+in_ok-detected w ↦
+          let line = rw was.bare at w.in_ok-detected.ensures.lost in
+          rw (w.self-is, w.begun-is) (record {
+            begun = end;
+            sent = w.in_ok-detected.ensures.sent ∙ was.sent;
+            acks = w.in_ok-detected.ensures.acks ∙ was.acks;
+            bare = w.in_ok-detected.ensures.bare ∙ was.bare;
+            lost = detected_more c.args.self.now.writing.bare c.loop-place.begun c.loop-place.place c.args.events.now _ _ _ w.if-begun-place.true was.lost line;
+          })
+      | in-Some+else-gap-saturating_sub w ↦ rw (w.self-is, w.begun-is) was
+      | in_default w ↦ rw (w.self-is, w.begun-is) was
+    ]
+
+pub returns-in_ok-detected-2-clause-lost : goal.returns-in_ok-detected-2-clause-lost
+returns-in_ok-detected-2-clause-lost c =
+    let was = c.loop-place.invariant in
+    let line = rw was.bare at c.in_ok-detected-2.ensures.lost in
+    detected_all c.args.self.now.writing.bare c.loop-place.begun c.args.events.now _ _ _ was.begun was.lost line
