@@ -1,5 +1,5 @@
 //! A reader of the trace of a log.
-ghost use Rattle.std.specs.Prelude.{◌≡◌, ◌≢◌, ◌+◌, ◌<◌, ◌^◌, [], IfOk, length};
+ghost use Rattle.std.specs.Prelude.{◌≡◌, ◌≢◌, ◌+◌, ◌<◌, ◌≤◌, ◌^◌, [], IfOk, length};
 ghost use Rattle.qa_log_command.specs.Handing.{Gives, left};
 
 use crate::failure::Stopped;
@@ -45,8 +45,9 @@ impl<'a, F: Read + Drop> TraceReader<'a, F> {
     /// While some of the lines at this point are left, these are the next of them, and nothing
     /// else changes. A read fails as the reader itself says.
     pub fn next(&mut self, buffer: &mut [u8]) -> io::Result<usize>
-        ensures { left self.old ≢ [] → IfOk result (Gives self.old self.new
+        ensures next { left self.old ≢ [] → IfOk result (Gives self.old self.new
             buffer.old buffer.new) }
+        ensures bound { IfOk result (λ count. count ≤ length buffer.old) }
     {
         self.fill()?;
         Ok(self.give(buffer))
