@@ -52,7 +52,10 @@ impl From<NoHeader> for NoTrace {
 
 impl From<NotedFault> for NoTrace {
     fn from(fault: NotedFault) -> Self {
-        NoTrace::Line(fault)
+        match fault {
+            NotedFault::OutOfMemory => NoTrace::OutOfMemory,
+            fault => NoTrace::Line(fault),
+        }
     }
 }
 

@@ -1,7 +1,7 @@
 -- Members, each with a comma before it, as the text of an object.
-use Rattle.std.proofs.Common.{◌≡◌, ◌∙◌, ◌<◌, ◌+◌, ℕ, List, [], ◌∷◌, ◌++◌, Option, Some, None, Bool, true, false, length, slice_set, refl, sym, ap, append_assoc, length-append, arith}
+use Rattle.std.proofs.Common.{◌≡◌, ◌∙◌, ℕ, List, [], ◌∷◌, ◌++◌, Option, Some, None, Bool, true, false, length, slice_set, refl, sym, ap, append_assoc}
 use Rattle.json.specs.Print.{quoted}
-use Rattle.serde_json.specs.Data.{Data, Members, no_members, member}
+use Rattle.serde_json.specs.Data.{Members, no_members, member}
 use Rattle.serde_json.specs.Written.{compact_text, members_text}
 use Rattle.qa_base.specs.declared.event.Event.{Event}
 use Rattle.qa_base.specs.declared.event.Event.TheVariants.{Sent, Ack, Lost, Timer, Discard, Confirmed, Keys, Metrics}
@@ -59,8 +59,3 @@ closed e base led_members ended begin at are is =
     ap (λ i. slice_set ended i 123) at
     ∙ ap (λ t. slice_set t (length base) 123) (is ∙ ap (λ t. t ++ 125 ∷ []) are ∙ whole e base)
     ∙ set_first base 44 123 (members_text false (members (event_pairs e)))
-
-pub has_first : (base led_members ended : List ℕ) (ps : Pairs) → led_members ≡ base ++ all_led ps → ended ≡ led_members ++ 125 ∷ [] → length base < length ended
-has_first base led_members ended ps are is =
-    let long : length ended ≡ length base + length (all_led ps) + 1 = ap length is ∙ length-append led_members (125 ∷ []) ∙ ap (λ l. length l + 1) are ∙ ap (λ n. n + 1) (length-append base (all_led ps)) in
-    omega (arith, long)

@@ -1,7 +1,7 @@
 -- The number of whole nanoseconds that a decimal text writes, as a time and as a duration.
--- `qlog/qlog_to_trace` also reads a number with white space around it or underscores in it, and
--- rounds one of more than 28 digits to so many. Here such a text is no number, and nothing is
--- rounded before the end.
+-- `conformance/qlog/qlog-to-trace` also reads a number with white space around it or underscores in
+-- it, and rounds one of more than 28 digits to so many. Here such a text is no number, and nothing
+-- is rounded before the end.
 use Rattle.std.specs.Prelude.{◌==◌, ◌&&◌, ◌+◌, ◌*◌, ◌/◌, ◌^◌, ℕ, ℤ, Bool, List, ◌++◌, length, min}
 use Rattle.std.specs.Prelude.{nat_le, nat_lt, codes, bytes_eq, Option, Some, None, Result, Ok, Err}
 use Rattle.std.specs.Prelude.{if◌then◌else◌}

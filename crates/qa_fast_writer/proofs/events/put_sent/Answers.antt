@@ -1,10 +1,8 @@
-use Rattle.serde_json.specs.Data.{array}
 use Rattle.qa_base.specs.declared.key.Key.TheVariants as key
 use Rattle.qa_base.specs.declared.line_kind.LineKind.TheVariants as kinds
-use Rattle.qa_base.specs.declared.rule.Field.TheVariants.{Window, Ssthresh, BytesInFlight, LatestRtt, MinRtt, SmoothedRtt, Rttvar}
-use Rattle.qa_base.specs.values.Names.{kind_name, line_kind_name, permission_name, space_name}
-use Rattle.qa_format.specs.format.Written.{boolean, integer, integer_pairs, reported, string}
-use Rattle.qa_fast_writer.proofs.Added.{last, none, one, some}
+use Rattle.qa_base.specs.values.Names.{line_kind_name, permission_name, space_name}
+use Rattle.qa_format.specs.format.Written.{boolean, integer, string}
+use Rattle.qa_fast_writer.proofs.Added.{last, none, one}
 use Rattle.qa_fast_writer.proofs.events.put_sent.Goals as goal
 
 pub returns-clause-text : goal.returns-clause-text
