@@ -19,6 +19,7 @@ HEAD = """
 |---|---:|---:|---:|---|---:|---|---|
 """
 MINUTE = 60
+HOUR = 3_600
 
 
 class NoPlaceError(Exception):
@@ -66,6 +67,18 @@ def key_of(row: str) -> tuple[str, str]:
     return cells[0], cells[4]
 
 
+def hours_of(rows: Sequence[str]) -> str:
+    """For how long the processes of each program tried cases, all runs together."""
+    seconds: dict[str, int] = {}
+    for row in rows:
+        program, _, time, processes, *_ = row.removeprefix("| ").split(" | ")
+        minutes, rest = map(int, time.split(":"))
+        took = (minutes * MINUTE + rest) * int(processes)
+        seconds[program] = seconds.get(program, 0) + took
+    told = (f"{it / HOUR:.1f} hours of {program}" for program, it in seconds.items())
+    return f"In all, one process after another: {', '.join(told)}.\n"
+
+
 def with_row(page: str, figures: Figures) -> str:
     """The page with a row for this run, in place of one of the program with the same seeds."""
     before, begin, rest = page.partition(BEGIN)
@@ -74,8 +87,8 @@ def with_row(page: str, figures: Figures) -> str:
         raise NoPlaceError(f"{PAGE} has no place for the table: {BEGIN.strip()}")
     rows = [line for line in table.splitlines(True) if line.startswith("| `")]
     key = key_of(figures.row())
-    text = "".join(sorted([*(it for it in rows if key_of(it) != key), figures.row()], key=key_of))
-    return f"{before}{BEGIN}{HEAD}{text}\n{END}{after}"
+    all_rows = sorted([*(it for it in rows if key_of(it) != key), figures.row()], key=key_of)
+    return f"{before}{BEGIN}{HEAD}{''.join(all_rows)}\n{hours_of(all_rows)}\n{END}{after}"
 
 
 def record(figures: Figures) -> None:

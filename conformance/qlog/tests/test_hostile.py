@@ -283,7 +283,9 @@ class Fuzz(unittest.TestCase):
             f"| `b` | 9 | 0:01 | 1 | 7 | 0 | {day} | def |\n"
             f"| `b` | 5 | 0:02 | 2 | 7, 8 | 1 | {day} | ghi |\n"
         )
-        wanted = f"Before.\n{figures.BEGIN}{figures.HEAD}{table}\n{figures.END}After.\n"
+        told = "In all, one process after another: 1.0 hours of `a`, 0.0 hours of `b`.\n"
+        text = f"{figures.HEAD}{table}\n{told}\n"
+        wanted = f"Before.\n{figures.BEGIN}{text}{figures.END}After.\n"
         self.assertEqual(page, wanted)
         self.assertIn(f"| `b` | 1,234 | 1:01 | 2 | 7, 8 | 0 | {day} | abc |", rows[0].row())
         with self.assertRaises(figures.NoPlaceError):

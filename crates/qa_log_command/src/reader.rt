@@ -1,5 +1,6 @@
 //! A reader of the trace of a log.
-ghost use Rattle.std.specs.Prelude.{◌≡◌, ◌≢◌, ◌+◌, ◌<◌, ◌≤◌, ◌^◌, [], IfOk, length};
+ghost use Rattle.std.specs.Prelude.{◌≡◌, ◌≢◌, ◌+◌, ◌<◌, ◌≤◌, ◌^◌, [], IfOk, length, true};
+ghost use Rattle.std.specs.Result.{is_ok};
 ghost use Rattle.qa_log_command.specs.Handing.{Gives, left};
 
 use crate::failure::Stopped;
@@ -42,11 +43,12 @@ impl<'a, F: Read + Drop> TraceReader<'a, F> {
 
     /// The next bytes of the trace, as many as there are and as the buffer takes; none at its end.
     ///
-    /// While some of the lines at this point are left, these are the next of them, and nothing
-    /// else changes. A read fails as the reader itself says.
+    /// While some of the lines at this point are left, it does not fail: these are the next of
+    /// them, and nothing else changes. A read fails as the reader itself says.
     pub fn next(&mut self, buffer: &mut [u8]) -> io::Result<usize>
         ensures next { left self.old ≢ [] → IfOk result (Gives self.old self.new
             buffer.old buffer.new) }
+        ensures gives { left self.old ≢ [] → is_ok result ≡ true }
         ensures bound { IfOk result (λ count. count ≤ length buffer.old) }
     {
         self.fill()?;
@@ -68,7 +70,8 @@ impl<'a, F: Read + Drop> TraceReader<'a, F> {
 
     /// Goes on to lines of which some are left, or to the end.
     fn fill(&mut self) -> io::Result<()>
-        ensures { left self.old ≢ [] → self.new ≡ self.old }
+        ensures stays { left self.old ≢ [] → self.new ≡ self.old }
+        ensures is_done { left self.old ≢ [] → is_ok result ≡ true }
     {
         'lines: for _i in 0..u64::MAX {
             if !self.rest().is_empty() || !self.advance()? {
