@@ -1,10 +1,11 @@
 -- How a reader of the trace of a log hands its lines on.
 use Rattle.std.specs.Prelude.{◌≡◌, ◌+◌, ◌++◌, ℕ, List, drop, length, min, take}
+use Rattle.qa_logs.specs.Tracing.{shown}
 use Rattle.qa_log_command.specs.declared.reader.TraceReader.{TraceReader}
 
 -- what is left of the lines at a point of the trace
 abbrev pub left : {F : Type 0} → TraceReader F → List ℕ
-left r = drop r.passed r.lines
+left r = drop r.passed (shown r.lines)
 
 -- as many bytes of them were put into a buffer as it takes, and the rest is left
 abbrev pub Gives : {F : Type 0} → TraceReader F → TraceReader F → List ℕ → List ℕ → ℕ → Type 0

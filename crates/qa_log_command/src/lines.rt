@@ -3,6 +3,7 @@
 ghost use Rattle.std.specs.Prelude.{◌≡◌, ◌⊎◌, false};
 ghost use Rattle.qa_convert.specs.OwnKeys.{AreEventLines, IsHeaderLine};
 ghost use Rattle.qa_log_command.specs.Failing.{fails_to_write};
+ghost use Rattle.qa_logs.specs.Tracing.{shown};
 
 use crate::bytes::{Bytes, Parts};
 use crate::failure::Failure;
@@ -14,7 +15,7 @@ use std::marker::Model;
 use std::rt::Files;
 
 /// The lines of the trace of a log, some at a time. The log is read for the third time as they are
-/// asked for. Contracts see what `text` returns.
+/// asked for. Contracts see what the trace has to give.
 #[derive(Drop)]
 pub struct Lines<'a, F> {
     trace: Trace,
@@ -26,9 +27,9 @@ pub struct Lines<'a, F> {
 }
 
 impl<'a, F> Model for Lines<'a, F> {
-    ghost use Rattle.std.specs.Prelude.{List, ℕ};
+    ghost use Rattle.qa_logs.specs.Tracing.{Told};
 
-    ghost Value = { List ℕ };
+    ghost Value = { Told };
 
     ghost view = { λ l. l.trace };
 }
@@ -37,7 +38,7 @@ impl<'a, F: Read + Drop> Lines<'a, F> {
     /// The header, with its LF; or once `advance` was called lines of events, each ended by LF, and
     /// perhaps none.
     pub fn text(&self) -> &[u8]
-        ensures text { result.now ≡ self.now }
+        ensures text { result.now ≡ shown self.now }
         ensures lines { IsHeaderLine result.now ⊎ AreEventLines result.now }
     {
         self.trace.text()

@@ -1,6 +1,7 @@
 //! The second reading of the records of a log, by which its trace is written.
 ghost use Rattle.std.specs.Prelude.{◌≡◌, ◌⊎◌};
 ghost use Rattle.qa_convert.specs.OwnKeys.{AreEventLines, IsHeaderLine};
+ghost use Rattle.qa_logs.specs.Tracing.{given, shown};
 
 use crate::Reading;
 use crate::choosing::Chosen;
@@ -13,7 +14,7 @@ use std::alloc::{AllocError, Global};
 use std::marker::Model;
 
 /// The second reading of the records of a log, by which its trace is written. Contracts see the
-/// lines that were written and not given away.
+/// lines that were written and not given away, and whether the header is one of them.
 #[derive(Drop)]
 pub struct Trace {
     alloc: Global,
@@ -40,11 +41,11 @@ struct Written {
 }
 
 impl Model for Trace {
-    ghost use Rattle.std.specs.Prelude.{List, ℕ, if◌then◌else◌};
+    ghost use Rattle.qa_logs.specs.Tracing.{Told};
 
-    ghost Value = { List ℕ };
+    ghost Value = { Told };
 
-    ghost view = { λ t. if t.has_header then t.records.second.0 else t.records.second.1 };
+    ghost view = { λ t. (t.has_header, t.records.second) };
 }
 
 impl Trace {
@@ -82,7 +83,7 @@ impl Trace {
     /// by itself, and once that was given away those of events. A reader of traces reads each as
     /// what it says.
     pub fn text(&self) -> &[u8]
-        ensures text { result.now ≡ self.now }
+        ensures text { result.now ≡ shown self.now }
         ensures lines { IsHeaderLine result.now ⊎ AreEventLines result.now }
     {
         if self.has_header {
@@ -93,7 +94,9 @@ impl Trace {
     }
 
     /// Gives the lines away that `text` returns.
-    pub fn clear(&mut self) {
+    pub fn clear(&mut self)
+        ensures { self.new ≡ given self.old }
+    {
         if self.has_header {
             self.has_header = false;
         } else {
