@@ -6,4 +6,5 @@ pub mod Streams
 pub mod Tally
 pub mod Telling
 pub mod Traces
+pub mod Waiting
 pub mod warnings

@@ -8,9 +8,11 @@ mod logs;
 mod tally;
 mod telling;
 mod traces;
+mod waiting;
 mod warnings;
 
 pub use commanding::{command, refuse};
 pub use ending::Failure;
 pub use tally::Tally;
+pub use waiting::announce;
 pub use warnings::Warnings;

@@ -22,7 +22,7 @@ use std::fs;
 use std::rt::Files;
 
 /// The name that stands for standard input.
-const STANDARD_INPUT: &str = "-";
+pub(crate) const STANDARD_INPUT: &str = "-";
 
 /// Tells of each trace, and behind several in text how many came to which verdict. Returns the exit
 /// status, the greatest of those of the traces.

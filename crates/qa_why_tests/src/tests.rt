@@ -4,4 +4,5 @@ mod allowed;
 mod around;
 mod logs;
 mod violations;
+mod waiting;
 mod warnings;

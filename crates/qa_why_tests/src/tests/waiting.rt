@@ -1,0 +1,40 @@
+//! What is told before a terminal is read.
+use qa_check::Metered;
+use qa_why_command::announce;
+use std::alloc::AllocError;
+
+const WAITS: &str = "qaudit-why: reading standard input\n";
+
+/// What is told of these arguments.
+fn told(rt: &HostRuntime, words: &[&str], is_terminal: bool) -> Result<Vec<u8>, AllocError> {
+    let mut arguments = Vec::new(rt.alloc());
+    for word in words {
+        arguments.push(String::from_str(rt.alloc(), word)?)?;
+    }
+    let mut error = Metered::new(Vec::new(rt.alloc()));
+    announce(rt.alloc(), &arguments, is_terminal, &mut error);
+    Ok(error.into_inner())
+}
+
+/// Whether this is told of these arguments.
+fn tells(rt: &HostRuntime, words: &[&str], is_terminal: bool, text: &str) -> bool {
+    match told(rt, words, is_terminal) {
+        Ok(found) => found.as_slice() == text.as_bytes(),
+        Err(_) => false,
+    }
+}
+
+#[test]
+fn a_terminal_is_read(rt: HostRuntime) {
+    assert!(rt; tells(&rt, &[], true, WAITS));
+    assert!(rt; tells(&rt, &["--all"], true, WAITS));
+    assert!(rt; tells(&rt, &["a", "-"], true, WAITS));
+}
+
+#[test]
+fn no_terminal_is_read(rt: HostRuntime) {
+    assert!(rt; tells(&rt, &[], false, ""));
+    assert!(rt; tells(&rt, &["a", "b"], true, ""));
+    assert!(rt; tells(&rt, &["--help"], true, ""));
+    assert!(rt; tells(&rt, &["--nothing"], true, ""));
+}
