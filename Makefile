@@ -331,7 +331,7 @@ lint:
 	mypy $(python)
 	mypy $(python_of_fuzz)
 	mypy $(python_of_bench)
-	MYPYPATH=conformance/qlog mypy $(python_of_qlog)
+	MYPYPATH=netlog:conformance/qlog mypy $(python_of_qlog)
 	MYPYPATH=netlog:conformance/qlog mypy $(python_of_netlog)
 	mypy $(python_of_bindings)
 	MYPYPATH=release mypy $(python_of_release)

@@ -4,25 +4,24 @@ that are compressed."""
 import fcntl
 import gzip
 import lzma
-import os
 import shutil
 import signal
 import struct
 import subprocess
 import sys
-import tempfile
 import termios
 import time
 import unittest
-from pathlib import Path
 
 from made_netlogs import PROGRAM, TOP, End, netlog, sent
 
 from netlog_to_qlog.command import arguments
 
+sys.path.append(str(TOP / "conformance"))
+
+import converters  # noqa: E402
+
 NETLOG = netlog([it for number in range(10) for it in sent(number, number)]).encode()
-CLOSED = "cannot write standard output: bad file descriptor"
-FULL = "cannot write standard output: no space left on device"
 SECONDS = 60
 EVIL = "\x1b[31m\u202e\U000e0041\u3164"
 SHOWN = "\\u{1b}[31m\\u{202e}\\u{e0041}\\u{3164}"
@@ -33,85 +32,13 @@ def unread(pipe: int) -> int:
     return struct.unpack("i", fcntl.ioctl(pipe, termios.FIONREAD, bytes(4)))[0]  # type: ignore
 
 
-class Streams(unittest.TestCase):
+class Streams(converters.Streams):
     """How the command ends, and what it says."""
 
-    def setUp(self) -> None:
-        self.folder = Path(self.enterContext(tempfile.TemporaryDirectory()))
-        (self.folder / "a.netlog").write_bytes(NETLOG)
-
-    def check(self, words: str, status: int, says: str = "") -> bytes:
-        """A command of a shell ends with this status and this line; what it writes."""
-        program = f"exec '{sys.executable}' '{PROGRAM}' "
-        ended = subprocess.run(
-            ["bash", "-c", program + words],
-            cwd=self.folder,
-            stdin=subprocess.DEVNULL,
-            capture_output=True,
-            timeout=SECONDS,
-            check=False,
-        )
-        told = f"netlog-to-qlog: {says}\n".encode() if says else b""
-        self.assertEqual((ended.returncode, ended.stderr), (status, told), words)
-        return ended.stdout
-
-    def test_output(self) -> None:
-        for words in ("a.netlog", "--help", "--version"):
-            self.check(f"{words} > /dev/full", 3, FULL)
-            self.check(f"{words} >&-", 3, CLOSED)
-            self.check(f"{words} > >(exec true; sleep 9)", 3)
-
-    def test_errors(self) -> None:
-        qlog = self.check("a.netlog", 0)
-        for errors in ("2> /dev/full", "2>&-"):
-            self.assertEqual(self.check(f"a.netlog {errors}", 0), qlog)
-            self.check(f"none.netlog {errors}", 3)
-            self.check(f"--none {errors}", 64)
-            self.check(f"a.netlog > /dev/full {errors}", 3)
-
-    def test_input(self) -> None:
-        self.check("<&-", 3, "standard input: Bad file descriptor")
-        self.check("< /dev/null", 2, "standard input: empty")
-        qlog = self.check("a.netlog", 0)
-        self.assertEqual(self.check("< a.netlog", 0), qlog)
-        self.assertEqual(self.check("< <(cat a.netlog)", 0), qlog)
-
-    def test_a_pipe_that_would_block_has_not_ended(self) -> None:
-        reading, writing = os.pipe()
-        os.write(writing, NETLOG[:100])
-        os.set_blocking(reading, False)
-        with os.fdopen(reading), os.fdopen(writing):
-            ended = subprocess.run(
-                [sys.executable, str(PROGRAM)],
-                stdin=reading,
-                capture_output=True,
-                text=True,
-                timeout=SECONDS,
-                check=False,
-            )
-        wanted = "netlog-to-qlog: standard input: Resource temporarily unavailable\n"
-        self.assertEqual((ended.returncode, ended.stdout, ended.stderr), (3, "", wanted))
-
-    def test_files_that_are_none(self) -> None:
-        self.check("none", 3, "cannot open none: no such file")
-        self.check("/", 3, "/: Is a directory")
-        self.check("/dev/zero", 2, "/dev/zero: no netlog of Chromium")
-        with (self.folder / "sparse").open("wb") as file:
-            file.truncate(1 << 32)
-        self.check("sparse", 2, "sparse: no netlog of Chromium")
-        os.mkfifo(self.folder / "fifo")
-        with subprocess.Popen(["sh", "-c", "cat a.netlog > fifo"], cwd=self.folder):
-            self.assertEqual(self.check("fifo", 0), self.check("a.netlog", 0))
-
-    def test_little_memory(self) -> None:
-        title = ",".join(["{}"] * 4_000_000)
-        (self.folder / "large").write_text(f'{{"constants":[{title}],"events":[]}}')
-        program = f"ulimit -v 200000; exec '{sys.executable}' '{PROGRAM}' large"
-        ended = subprocess.run(
-            ["bash", "-c", program], cwd=self.folder, capture_output=True, text=True, check=False
-        )
-        wanted = (3, "", "netlog-to-qlog: large: out of memory\n")
-        self.assertEqual((ended.returncode, ended.stdout, ended.stderr), wanted)
+    program = PROGRAM
+    log = NETLOG
+    large = '{"constants":[],"events":[]}'
+    of_zeros = "no netlog of Chromium"
 
     def test_an_interrupt_ends_it(self) -> None:
         with subprocess.Popen(
@@ -195,16 +122,7 @@ class Pages(unittest.TestCase):
     """The manual page and the completions have each option."""
 
     def test_options(self) -> None:
-        completions = sorted((TOP / "release" / "completions").glob("*netlog-to-qlog*"))
-        self.assertEqual(len(completions), 3)
-        options = [it for action in arguments()._actions for it in action.option_strings]
-        for path in (TOP / "docs" / "netlog-to-qlog.1", *completions):
-            text = path.read_text()
-            for option in options:
-                if option == "-h" or (option == "--help" and path.suffix == ".1"):
-                    continue
-                word = {".1": f"Fl {option[1:]}", ".fish": f"-l {option[2:]} "}.get(path.suffix)
-                self.assertIn(word or option, text, path.name)
+        converters.check_options(self, arguments())
 
 
 if __name__ == "__main__":

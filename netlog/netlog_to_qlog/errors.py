@@ -2,7 +2,7 @@
 
 
 class Unusable(Exception):
-    """An input that gives nothing, with the byte at which that was seen."""
+    """An input that gives nothing, with the line or the byte at which that was seen."""
 
     def __init__(self, reason: str, place: str | None = None) -> None:
         super().__init__(f"{place}: {reason}" if place else reason)

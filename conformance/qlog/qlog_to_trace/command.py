@@ -1,18 +1,17 @@
 """The command line."""
 
 import argparse
-import gc
 import json
-import re
-import signal
 import sys
-import tempfile
 from collections.abc import Iterator, Sequence
 from dataclasses import dataclass, replace
-from pathlib import Path
-from typing import IO, BinaryIO, TextIO
+from typing import BinaryIO, TextIO
 
-from . import streams
+from netlog_to_qlog import streams
+from netlog_to_qlog.program import BAD_INPUT, FAILED, Parser, Program
+from netlog_to_qlog.streams import OutputError
+from netlog_to_qlog.version import version
+
 from .connections import Connections, chosen_of, others
 from .conversion import Conversion
 from .detection import form_of
@@ -24,17 +23,12 @@ from .header import DEFAULT_EIGHTHS, NO_LIMIT, Choices, options_of, write_header
 from .lines import PLACE, Line, Lines
 from .looking import order_of
 from .notes import Notes
-from .streams import OutputError
 from .survey import Survey
-from .version import version
 
-BAD_INPUT = 2
-FAILED = 3
-WRONG_ARGUMENTS = 64
+PROGRAM = Program("qlog-to-trace")
 ROLES = ("client", "server")
 # The versions of the format of traces.
 FORMATS = (1, 2, 3)
-STANDARD_INPUT = "standard input"
 # From how many bytes on a line of progress is worth its place, and how many events lie between two.
 LARGE = 20_000_000
 EVENTS_OF_PROGRESS = 20_000
@@ -42,13 +36,6 @@ EVENTS_OF_PROGRESS = 20_000
 MOST_OF_RECORDS = 3
 TRACES, CONNECTIONS = "traces", "connections or paths"
 LONGEST_LINE = 65_536
-# How many characters a line on standard error has at most.
-MOST_TOLD = 4_000
-# What Python calls printable and nobody sees: fillers and selectors of variations.
-UNSEEN = re.compile(
-    "[\u034f\u115f\u1160\u17b4\u17b5\u180b-\u180f\u2800\u3164\ufe00-\ufe0f\uffa0"
-    "\U000e0100-\U000e01ef]"
-)
 # The keys of a line are in the order of their bytes, so that those which begin with `x_` are last.
 ENCODER = json.JSONEncoder(separators=(",", ":"), sort_keys=True)
 
@@ -79,23 +66,9 @@ class Version(argparse.Action):
         namespace.format = int(str(values))
 
 
-class Parser(argparse.ArgumentParser):
-    """Ends with the status that qaudit has for wrong arguments."""
-
-    def error(self, message: str) -> None:  # type: ignore[override]
-        self.print_usage(sys.stderr)
-        self.exit(WRONG_ARGUMENTS, f"{self.prog}: {visible(message)}\n")
-
-    def _print_message(self, message: str, file: IO[str] | None = None) -> None:
-        if file is sys.stderr:
-            streams.say(message)
-        else:
-            streams.put(message)
-
-
 def arguments() -> argparse.ArgumentParser:
     """What may stand on the command line."""
-    parser = Parser(prog="qlog-to-trace", description=DESCRIPTION, epilog=EPILOG)
+    parser = Parser(prog=PROGRAM.name, description=DESCRIPTION, epilog=EPILOG)
     parser.formatter_class = argparse.RawDescriptionHelpFormatter
     add = parser.add_argument
     add("file", nargs="?", metavar="FILE", help="the qlog (default: standard input)")
@@ -397,38 +370,11 @@ class Converter:
         return BY_NAME[asked] if asked else dialect_of(self._header)
 
 
-def opened(name: str | None) -> BinaryIO:
-    """The input, which is copied if it cannot be read twice."""
-    source: BinaryIO = streams.standard_input() if name is None else Path(name).open("rb")
-    if name is None and source.isatty():
-        complain(f"reading {STANDARD_INPUT}")
-    if source.seekable():
-        return source
-    copy: BinaryIO = tempfile.TemporaryFile()  # type: ignore[assignment]
-    streams.copied(source, copy)
-    copy.seek(0)
-    return copy
-
-
-def visible(text: str) -> str:
-    """Text of others with an escape for each character that is not printed, if need be cut."""
-    shown = "".join(
-        it if it.isprintable() and not UNSEEN.match(it) else f"\\u{{{ord(it):x}}}"
-        for it in text[:MOST_TOLD]
-    )
-    return f"{shown} .." if len(text) > MOST_TOLD else shown
-
-
-def complain(text: str) -> None:
-    """One line on standard error."""
-    streams.say(f"qlog-to-trace: {visible(text)}\n")
-
-
 def write_trace(args: argparse.Namespace, name: str) -> int:
     """Writes the trace of a log to standard output; the exit status."""
     converter = None
     try:
-        with opened(args.file) as file:
+        with PROGRAM.opened(args.file) as file:
             streams.put("")
             converter = Converter(file, args, sys.stdout, sys.stderr)
             converter.convert()
@@ -437,32 +383,14 @@ def write_trace(args: argparse.Namespace, name: str) -> int:
         written = converter.written if converter else 0
         rest = f"; the trace ends after its line {written}" if written else ""
         is_fault = isinstance(error, MemoryError)
-        complain(f"{name}: {'out of memory' if is_fault else error}{rest}")
+        PROGRAM.complain(f"{name}: {'out of memory' if is_fault else error}{rest}")
         return FAILED if is_fault else BAD_INPUT
     for told in converter.lacks + converter.notes.told():
-        complain(f"{name}: {told}")
+        PROGRAM.complain(f"{name}: {told}")
     if args.notes:
         for note in converter.notes.lines():
             streams.say(f"{note}\n")
     return 0
-
-
-def convert(args: argparse.Namespace) -> int:
-    """Converts the log that the arguments name; the exit status."""
-    name = args.file or STANDARD_INPUT
-    try:
-        return write_trace(args, name)
-    except BrokenPipeError:
-        # An auditor reads no more once its verdict is fixed, so this is no mistake to tell of.
-        # Nothing may be written there at the end of the program either.
-        streams.silence(streams.OUTPUT)
-    except FileNotFoundError:
-        complain(f"cannot open {name}: no such file")
-    except OSError as error:
-        complain(f"{name}: {error.strerror}")
-    except OutputError as error:
-        complain(str(error))
-    return FAILED
 
 
 def main(words: list[str] | None = None) -> int:
@@ -472,22 +400,9 @@ def main(words: list[str] | None = None) -> int:
     wrong = wrong_in(args)
     if wrong:
         parser.error(wrong)
-    return convert(args)
+    return PROGRAM.convert(args.file, lambda name: write_trace(args, name))
 
 
 def program() -> None:
     """Runs the command and ends."""
-    # Values of JSON make no cycles, so there is nothing to look for among them.
-    gc.disable()
-    streams.prepare()
-    if signal.getsignal(signal.SIGINT) is signal.default_int_handler:
-        # Ctrl-C ends it at once and quietly, also while it waits for input.
-        signal.signal(signal.SIGINT, signal.SIG_DFL)
-    try:
-        status = main()
-    except OutputError as error:
-        complain(str(error))
-        status = FAILED
-    except BrokenPipeError:
-        status = FAILED
-    sys.exit(status)
+    PROGRAM.run(main)

@@ -1,12 +1,5 @@
 """What is wrong with an input."""
 
+from netlog_to_qlog.errors import Torn, Unusable
 
-class Unusable(Exception):
-    """An input that gives no trace, with the line or the byte at which that was seen."""
-
-    def __init__(self, reason: str, place: str | None = None) -> None:
-        super().__init__(f"{place}: {reason}" if place else reason)
-
-
-class Torn(Exception):
-    """The input ends within a value."""
+__all__ = ["Torn", "Unusable"]

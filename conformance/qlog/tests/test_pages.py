@@ -10,6 +10,10 @@ from qlog_to_trace.dialects import DIALECTS
 
 from .made import FOLDER, TOP, End, Line
 
+sys.path.append(str(TOP / "conformance"))
+
+from converters import check_options, completions_of  # noqa: E402
+
 REAL = TOP / "conformance" / "real" / "traces"
 # What a header of each version says if it leaves a key out.
 DEFAULTS: dict[int, Line] = {
@@ -42,19 +46,12 @@ class Pages(unittest.TestCase):
     """The manual page and the completions have each option and each kind of log."""
 
     def test_options(self) -> None:
-        completions = sorted((TOP / "release" / "completions").glob("*qlog-to-trace*"))
-        self.assertEqual(len(completions), 3)
-        options = [it for action in arguments()._actions for it in action.option_strings]
-        for path in (TOP / "docs" / "qlog-to-trace.1", *completions):
-            text = path.read_text()
-            for option in options:
-                if option == "-h" or (option == "--help" and path.suffix == ".1"):
-                    continue
-                word = {".1": f"Fl {option[1:]}", ".fish": f"-l {option[2:]} "}.get(path.suffix)
-                self.assertIn(word or option, text, path.name)
-            if path.suffix != ".1":
-                names = " ".join(dialect.name for dialect in DIALECTS)
-                self.assertRegex(text, rf"[(']{names}[)']", path.name)
+        check_options(self, arguments())
+
+    def test_kinds_of_logs(self) -> None:
+        names = " ".join(dialect.name for dialect in DIALECTS)
+        for path in completions_of(arguments().prog):
+            self.assertRegex(path.read_text(), rf"[(']{names}[)']", path.name)
 
     def test_what_is_set_for_each_kind_of_log(self) -> None:
         words = [sys.executable, str(FOLDER / "dialects")]
