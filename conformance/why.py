@@ -300,9 +300,9 @@ def printed(data: bytes) -> bytes:
 def hint_of(line: bytes) -> str:
     """What a file may be whose first line is this, which cannot be read."""
     hints = (
-        (line.startswith(b"\x1f\x8b"), "the file is compressed by gzip; decompress it first."),
-        (line.startswith(b"\x28\xb5\x2f\xfd"), "the file is compressed by zstd; decompress it"
-         " first."),
+        (line.startswith(b"\x1f\x8b"), unpacked_by("gzip", "zcat")),
+        (line.startswith(b"\x28\xb5\x2f\xfd"), unpacked_by("zstd", "zstdcat")),
+        (line.startswith(b"\xfd7zXZ\0"), unpacked_by("xz", "xzcat")),
         (line.startswith(b"\xef\xbb\xbf"), "the file begins with a byte order mark; leave it"
          " out."),
         (line.startswith(b"\x1e"), "the file is a JSON text sequence (RFC 7464), as qlog writes;"
@@ -316,6 +316,14 @@ def hint_of(line: bytes) -> str:
          " has one on each line."),
     )
     return next((text for holds, text in hints if holds), "")
+
+
+def unpacked_by(name: str, command: str) -> str:
+    """How a trace, or a log, is read that a program has compressed."""
+    return (
+        f"the file is compressed by {name}. Use {command} FILE | qaudit-why for a trace,"
+        f" {command} FILE | qlog-to-trace | qaudit-why for a qlog."
+    )
 
 
 # Events that break a rule.

@@ -12,10 +12,10 @@ MARKS_OF_SEQUENCE = ("trace", "qlog_format", "file_schema", "serialization_forma
 NETLOG = re.compile(rb'\s*\{\s*"constants"')
 # By their first bytes, files that are no log that can be read.
 KINDS_OF_FILE = {
-    b"\x1f\x8b": "compressed by gzip: unpack it first",
-    b"\xfd7zXZ\x00": "compressed by xz: unpack it first",
-    b"\x28\xb5\x2f\xfd": "compressed by zstd: unpack it first",
-    b"BZh": "compressed by bzip2: unpack it first",
+    b"\x1f\x8b": "compressed by gzip: use zcat FILE | qlog-to-trace",
+    b"\xfd7zXZ\x00": "compressed by xz: use xzcat FILE | qlog-to-trace",
+    b"\x28\xb5\x2f\xfd": "compressed by zstd: use zstdcat FILE | qlog-to-trace",
+    b"BZh": "compressed by bzip2: use bzcat FILE | qlog-to-trace",
     b"PK\x03\x04": "a zip archive: unpack it first",
     b"\xef\xbb\xbf": "it begins with a byte order mark, which JSON has not: take it off first",
     b"\xd4\xc3\xb2\xa1": "a capture of packets and no log",

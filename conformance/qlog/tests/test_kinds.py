@@ -3,6 +3,7 @@
 import gzip
 import json
 import lzma
+import re
 import unittest
 from typing import Any
 
@@ -37,6 +38,11 @@ def without_frames(event: Event) -> Event:
     return event | {"data": {key: it for key, it in event["data"].items() if key != "frames"}}
 
 
+def compressed(name: str, command: str) -> str:
+    """What is said of a log that a program has compressed, as a pattern."""
+    return re.escape(f"compressed by {name}: use {command} FILE | qlog-to-trace")
+
+
 class NoLogs(unittest.TestCase):
     """Files that are something else, and logs that do not say enough."""
 
@@ -48,11 +54,11 @@ class NoLogs(unittest.TestCase):
 
     def test_other_files(self) -> None:
         log = sequence(header(), EVENTS)
-        self.refused(gzip.compress(log.encode()), "compressed by gzip: unpack it first")
-        self.refused(lzma.compress(log.encode()), "compressed by xz: unpack it first")
-        self.refused(b"\x28\xb5\x2f\xfd" + log.encode(), "compressed by zstd: unpack it first")
+        self.refused(gzip.compress(log.encode()), compressed("gzip", "zcat"))
+        self.refused(lzma.compress(log.encode()), compressed("xz", "xzcat"))
+        self.refused(b"\x28\xb5\x2f\xfd" + log.encode(), compressed("zstd", "zstdcat"))
         self.refused(b'{"constants": {', "a netlog of Chromium, which is not read here")
-        self.refused(b"BZh" + log.encode(), "compressed by bzip2: unpack it first")
+        self.refused(b"BZh" + log.encode(), compressed("bzip2", "bzcat"))
         self.refused(b"\xef\xbb\xbf" + log.encode(), "it begins with a byte order mark")
         self.refused(b"\xd4\xc3\xb2\xa1\x02\x00", "a capture of packets and no log")
         self.refused(b"\n\r\r\n\x6c\x00M<+\x1a", "a capture of packets and no log")

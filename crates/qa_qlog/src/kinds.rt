@@ -31,16 +31,16 @@ pub enum NoLog {
     #[error("empty")]
     Empty,
     /// Compressed by gzip.
-    #[error("compressed by gzip: unpack it first")]
+    #[error("compressed by gzip: use zcat FILE | qlog-to-trace")]
     Gzip,
     /// Compressed by xz.
-    #[error("compressed by xz: unpack it first")]
+    #[error("compressed by xz: use xzcat FILE | qlog-to-trace")]
     Xz,
     /// Compressed by zstd.
-    #[error("compressed by zstd: unpack it first")]
+    #[error("compressed by zstd: use zstdcat FILE | qlog-to-trace")]
     Zstd,
     /// Compressed by bzip2.
-    #[error("compressed by bzip2: unpack it first")]
+    #[error("compressed by bzip2: use bzcat FILE | qlog-to-trace")]
     Bzip2,
     /// A zip archive.
     #[error("a zip archive: unpack it first")]

@@ -19,6 +19,9 @@ is_gzip line = begins line (31 ∷ 139 ∷ [])
 abbrev pub is_zstd : List ℕ → Bool
 is_zstd line = begins line (40 ∷ 181 ∷ 47 ∷ 253 ∷ [])
 
+abbrev pub is_xz : List ℕ → Bool
+is_xz line = begins line (253 ∷ 55 ∷ 122 ∷ 88 ∷ 90 ∷ 0 ∷ [])
+
 -- a byte order mark of UTF-8
 abbrev pub is_marked : List ℕ → Bool
 is_marked line = begins line (239 ∷ 187 ∷ 191 ∷ [])
@@ -46,8 +49,9 @@ is_opened line = begins line (codes "{") && not (has line (codes "}"))
 -- the first of these that the line of the fault is
 unfoldable pub hint : List ℕ → List ℕ
 hint line =
-    if is_gzip line then codes "  Hint: the file is compressed by gzip; decompress it first.\n" else
-    (if is_zstd line then codes "  Hint: the file is compressed by zstd; decompress it first.\n"
+    if is_gzip line then codes "  Hint: the file is compressed by gzip. Use zcat FILE | qaudit-why for a trace, zcat FILE | qlog-to-trace | qaudit-why for a qlog.\n" else
+    (if is_zstd line then codes "  Hint: the file is compressed by zstd. Use zstdcat FILE | qaudit-why for a trace, zstdcat FILE | qlog-to-trace | qaudit-why for a qlog.\n" else
+    (if is_xz line then codes "  Hint: the file is compressed by xz. Use xzcat FILE | qaudit-why for a trace, xzcat FILE | qlog-to-trace | qaudit-why for a qlog.\n"
     else
     (if is_marked line then codes "  Hint: the file begins with a byte order mark; leave it out.\n"
     else
@@ -56,4 +60,4 @@ hint line =
     (if is_utf16 line then codes "  Hint: the file seems to be UTF-16; write it as UTF-8.\n" else
     (if is_array line then codes "  Hint: the file is a JSON array; a trace has one object on each line.\n" else
     (if is_opened line then codes "  Hint: the object goes over several lines; a trace has one on each line.\n" else
-    [])))))))
+    []))))))))

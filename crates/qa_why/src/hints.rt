@@ -48,10 +48,13 @@ pub fn hint(line: &[u8]) -> &'static str
     ensures { result.now ≡ text.hint line.now }
 {
     if begins(line, b"\x1f\x8b") {
-        return "  Hint: the file is compressed by gzip; decompress it first.\n";
+        return "  Hint: the file is compressed by gzip. Use zcat FILE | qaudit-why for a trace, zcat FILE | qlog-to-trace | qaudit-why for a qlog.\n";
     }
     if begins(line, b"\x28\xb5\x2f\xfd") {
-        return "  Hint: the file is compressed by zstd; decompress it first.\n";
+        return "  Hint: the file is compressed by zstd. Use zstdcat FILE | qaudit-why for a trace, zstdcat FILE | qlog-to-trace | qaudit-why for a qlog.\n";
+    }
+    if begins(line, b"\xfd7zXZ\0") {
+        return "  Hint: the file is compressed by xz. Use xzcat FILE | qaudit-why for a trace, xzcat FILE | qlog-to-trace | qaudit-why for a qlog.\n";
     }
     if begins(line, b"\xef\xbb\xbf") {
         return "  Hint: the file begins with a byte order mark; leave it out.\n";
