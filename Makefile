@@ -39,7 +39,7 @@ without_browser := $(patsubst page/tests/%.py,tests.%,$(filter-out page/tests/te
 tests_in_python := $(tests_of_pages) test_qlog test_netlog test_captures $(runner_tests) test_release links made_up contracts crates words wrong commands
 
 # All programs in Python, by the places where their names are unlike each other.
-python := $(addprefix conformance/,allocations contracts crates cuts failing fuzz_library large library links made_up malicious memory mutations reasons recipes \
+python := $(addprefix conformance/,allocations contracts crates cuts failing fuzz_library large library links log_refusals made_up malicious memory mutations reasons recipes \
 	logs refusals run side_by_side simulate unproved words wrong commands) \
 	conformance/fuzz/instrument conformance/lines/make.py $(wildcard conformance/*.py)
 python_of_fuzz := conformance/fuzz/run
@@ -60,7 +60,8 @@ python_of_bench := $(addprefix bench/,files instructions library logs peers run 
 # The programs of conformance/ over what the gate built, the longest first. None waits for another.
 conformance := conformance-cuts conformance-failing conformance-refusals conformance-simulate conformance-mutations \
 	conformance-malicious conformance-large conformance-run conformance-reasons conformance-rows conformance-departures \
-	conformance-allocations conformance-memory conformance-side-by-side conformance-converted conformance-logs
+	conformance-allocations conformance-memory conformance-side-by-side conformance-converted conformance-logs \
+	conformance-log-refusals
 
 # What is handed to the library for C, in each language.
 bindings := conformance-library conformance-recipes bindings-rust bindings-go bindings-python
@@ -217,6 +218,9 @@ conformance-converted:
 # `qaudit-why` over logs, beside the converter.
 conformance-logs:
 	conformance/logs $(program_why) $(program_of_logs)
+
+conformance-log-refusals:
+	conformance/log_refusals $(program_why) $(program_of_logs)
 
 conformance-library: $(library)
 	conformance/library $(library)

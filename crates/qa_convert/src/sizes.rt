@@ -62,12 +62,18 @@ impl Sizes {
         }
     }
 
-    /// Looks at the offsets of a packet that has no size, while the log is read for the first time.
-    pub(crate) fn see(&mut self, packet: &Packet<'_, '_>) -> Result<(), NoEvent> {
+    /// Looks at the offsets of a packet that has no size, while the log is read for the first time,
+    /// and finds its size.
+    pub(crate) fn see(&mut self, packet: &Packet<'_, '_>) -> Result<Option<FoundSize>, NoEvent> {
         let Some(size) = size_by_frames(packet)? else {
-            return Ok(());
+            return Ok(size_by_payload(packet)?);
         };
-        let room = self.full.saturating_sub(size);
+        self.see_frames(packet, self.full.saturating_sub(size))?;
+        self.with_open_data(packet, size)
+    }
+
+    /// Looks at the offsets of the STREAM frames of a packet that has room for so much data.
+    fn see_frames(&mut self, packet: &Packet<'_, '_>, room: u64) -> Result<(), NoEvent> {
         let Some(frames) = packet.frames()? else {
             return Ok(());
         };
@@ -105,9 +111,18 @@ impl Sizes {
 
     /// The size of a packet that has none, if anything says it.
     pub(crate) fn find(&self, packet: &Packet<'_, '_>) -> Result<Option<FoundSize>, NoEvent> {
-        let Some(size) = size_by_frames(packet)? else {
-            return Ok(size_by_payload(packet)?);
-        };
+        match size_by_frames(packet)? {
+            Some(size) => self.with_open_data(packet, size),
+            None => Ok(size_by_payload(packet)?),
+        }
+    }
+
+    /// The size of a packet of so many bytes without the data of STREAM frames that have no length.
+    fn with_open_data(
+        &self,
+        packet: &Packet<'_, '_>,
+        size: u64,
+    ) -> Result<Option<FoundSize>, NoEvent> {
         let (data, has_open) = match packet.frames()? {
             Some(frames) => self.open_data(frames, size)?,
             None => (0, false),

@@ -309,8 +309,7 @@ impl Survey {
 
     /// The size of a packet whose record does not have it.
     fn find_size(&mut self, said: &Packet<'_, '_>) -> Result<PacketSize, NoEvent> {
-        self.sizes.see(said)?;
-        match self.sizes.find(said)? {
+        match self.sizes.see(said)? {
             Some(found) => {
                 self.has_found_sizes = true;
                 Ok(found.size)

@@ -46,7 +46,10 @@ impl From<NoSurvey> for NoTrace {
 
 impl From<NoHeader> for NoTrace {
     fn from(fault: NoHeader) -> Self {
-        NoTrace::Header(fault)
+        match fault {
+            NoHeader::OutOfMemory => NoTrace::OutOfMemory,
+            fault => NoTrace::Header(fault),
+        }
     }
 }
 

@@ -11,6 +11,7 @@ pub mod Laws
 pub mod Named
 pub mod Pieces
 pub mod Places
+pub mod Plain
 pub mod Powers
 pub mod Scans
 pub mod Sizes

@@ -2,7 +2,8 @@
 -- `conformance/qlog/qlog-to-trace` also reads a number with white space around it or underscores in
 -- it, and rounds one of more than 28 digits to so many. Here such a text is no number, and nothing
 -- is rounded before the end.
-use Rattle.std.specs.Prelude.{◌==◌, ◌&&◌, ◌+◌, ◌*◌, ◌/◌, ◌^◌, ℕ, ℤ, Bool, List, ◌++◌, length, min}
+use Rattle.std.specs.Prelude.{◌==◌, ◌&&◌, ◌+◌, ◌*◌, ◌/◌, ◌^◌, ℕ, ℤ, Bool, false, List, [], ◌∷◌, ◌++◌}
+use Rattle.std.specs.Prelude.{length, min}
 use Rattle.std.specs.Prelude.{nat_le, nat_lt, codes, bytes_eq, Option, Some, None, Result, Ok, Err}
 use Rattle.std.specs.Prelude.{if◌then◌else◌}
 use Rattle.std.specs.List.{prefix_len}
@@ -115,3 +116,15 @@ duration unit text =
 -- stands in a body for any larger number
 abbrev pub cap : ℕ
 cap = 2 ^ 65
+
+-- a few digits after those of a small number fit into 64 bits
+abbrev pub small : ℕ
+small = 10 ^ 9
+
+abbrev pub few : ℕ
+few = 10
+
+-- not all digits are 0 then
+abbrev pub begins_above_zero : List ℕ → Bool
+begins_above_zero [] = false
+begins_above_zero (digit ∷ digits) = nat_le 49 digit && nat_le digit 57

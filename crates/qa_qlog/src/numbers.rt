@@ -1,5 +1,5 @@
 //! Whole numbers and durations, which a log may write as strings, with a point or an exponent.
-ghost use Rattle.std.specs.Prelude.{◌≡◌, Option};
+ghost use Rattle.std.specs.Prelude.{◌≡◌, Option, Some, ℕ};
 ghost use Rattle.json.specs.Json.{Json};
 ghost use Rattle.json.specs.Find.{BeginsWith, Finds};
 ghost use Rattle.qa_qlog.specs.Numbers as numbers;
@@ -10,6 +10,9 @@ use crate::says::{key_at, says};
 use crate::times::{NoTime, Unit, duration, split_sign};
 use fast_float::Numeral;
 use json::Element;
+
+/// How many digits always fit into 64 bits.
+const FITTING_DIGITS: usize = 19;
 
 /// The whole number of 64 bits that all of a text is, perhaps with a sign.
 fn whole(text: &[u8]) -> Option<u64>
@@ -24,10 +27,30 @@ fn whole(text: &[u8]) -> Option<u64>
     }
 }
 
+/// The number that digits alone are, if they are so few that they fit: mostly all of a text is one.
+fn plain(text: &[u8]) -> Option<u64>
+    ensures { (n : ℕ) → result ≡ Some n → numbers.unsigned text.now ≡ Some n }
+{
+    if text.is_empty() || text.len() > FITTING_DIGITS {
+        return None;
+    }
+    let mut value: u64 = 0;
+    for digit in text {
+        if !digit.is_ascii_digit() {
+            return None;
+        }
+        value = value * 10 + (*digit - b'0') as u64;
+    }
+    Some(value)
+}
+
 /// The whole number of 64 bits that all of a text without a sign is.
 fn unsigned_whole(text: &[u8]) -> Option<u64>
     ensures { result ≡ numbers.unsigned text.now }
 {
+    if let Some(number) = plain(text) {
+        return Some(number);
+    }
     let number = Numeral::scan(text);
     if !number.has_digits() || number.len() != text.len() {
         return None;
