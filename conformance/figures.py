@@ -4,6 +4,7 @@ Each of these programs writes its own row, at the end of a run that is told to; 
 """
 
 import os
+import resource
 import subprocess
 from collections.abc import Sequence
 from dataclasses import dataclass
@@ -15,8 +16,8 @@ PAGE = Path("docs/proofs.md")
 BEGIN = "<!-- conformance/qlog/fuzz and conformance/fuzz_library put what follows here -->\n"
 END = "<!-- up to here -->\n"
 HEAD = """
-| Program | Cases | Minutes | Processes | Seeds | Findings | Date | Commit |
-|---|---:|---:|---:|---|---:|---|---|
+| Program | Cases | Minutes | Of processors | Processes | Seeds | Findings | Date | Commit |
+|---|---:|---:|---:|---:|---|---:|---|---|
 """
 MINUTE = 60
 HOUR = 3_600
@@ -32,20 +33,34 @@ class Figures:
 
     program: str
     cases: int
+    # By the clock, and of processors: those of a busy machine give less than the clock says.
     seconds: float
+    processor_seconds: float
     seeds: Sequence[int]
     findings: int
     commit: str
 
     def row(self) -> str:
         """Its row in the table."""
-        minutes, seconds = divmod(round(self.seconds), MINUTE)
         seeds = ", ".join(map(str, self.seeds))
         date = datetime.now(UTC).date().isoformat()
         return (
-            f"| `{self.program}` | {self.cases:,} | {minutes}:{seconds:02} | {len(self.seeds)} "
-            f"| {seeds} | {self.findings} | {date} | {self.commit} |\n"
+            f"| `{self.program}` | {self.cases:,} | {time_of(self.seconds)} "
+            f"| {time_of(self.processor_seconds)} | {len(self.seeds)} | {seeds} "
+            f"| {self.findings} | {date} | {self.commit} |\n"
         )
+
+
+def time_of(seconds: float) -> str:
+    """Minutes and seconds."""
+    minutes, rest = divmod(round(seconds), MINUTE)
+    return f"{minutes}:{rest:02}"
+
+
+def processor_seconds() -> float:
+    """What the processes that this one waited for took of the processors."""
+    spent = resource.getrusage(resource.RUSAGE_CHILDREN)
+    return spent.ru_utime + spent.ru_stime
 
 
 def told_by_git(*words: str) -> str:
@@ -64,19 +79,19 @@ def commit_of(*folders: str) -> str:
 def key_of(row: str) -> tuple[str, str]:
     """The program of a row, and its seeds."""
     cells = row.split(" | ")
-    return cells[0], cells[4]
+    return cells[0], cells[5]
 
 
 def hours_of(rows: Sequence[str]) -> str:
-    """For how long the processes of each program tried cases, all runs together."""
+    """For how long each program had a processor, all runs together that say it."""
     seconds: dict[str, int] = {}
     for row in rows:
-        program, _, time, processes, *_ = row.removeprefix("| ").split(" | ")
-        minutes, rest = map(int, time.split(":"))
-        took = (minutes * MINUTE + rest) * int(processes)
-        seconds[program] = seconds.get(program, 0) + took
+        program, _, _, time, *_ = row.removeprefix("| ").split(" | ")
+        if time:
+            minutes, rest = map(int, time.split(":"))
+            seconds[program] = seconds.get(program, 0) + minutes * MINUTE + rest
     told = (f"{it / HOUR:.1f} hours of {program}" for program, it in seconds.items())
-    return f"In all, one process after another: {', '.join(told)}.\n"
+    return f"In all, by the processors: {', '.join(told)}.\n"
 
 
 def with_row(page: str, figures: Figures) -> str:

@@ -224,6 +224,10 @@ class Cases(unittest.TestCase):
             self.assertIn(why, failure_of_end(other) or "")
 
 
+# A row of a run that did not say what it took of the processors.
+UNCOUNTED = "| `c` | 7 | 60:00 |  | 2 | 1, 2 | 0 | 2026-11-27 | abc |\n"
+
+
 class Fuzz(unittest.TestCase):
     """The program that tries them."""
 
@@ -269,31 +273,33 @@ class Fuzz(unittest.TestCase):
 
     def test_figures(self) -> None:
         rows = [
-            figures.Figures("b", 1_234, 61.4, [7, 8], 0, "abc"),
-            figures.Figures("a", 1, 3_600, [1], 2, "abc with changes"),
-            figures.Figures("b", 9, 1, [7], 0, "def"),
-            figures.Figures("b", 5, 2, [7, 8], 1, "ghi"),
+            figures.Figures("b", 1_234, 61.4, 90, [7, 8], 0, "abc"),
+            figures.Figures("a", 1, 3_600, 1_800, [1], 2, "abc with changes"),
+            figures.Figures("b", 9, 1, 0.6, [7], 0, "def"),
+            figures.Figures("b", 5, 2, 3.4, [7, 8], 1, "ghi"),
         ]
         page = f"Before.\n{self.before}After.\n"
+        page = page.replace(figures.END, f"{UNCOUNTED}{figures.END}")
         for row in rows:
             page = figures.with_row(page, row)
         day = rows[0].row().split(" | ")[-2]
         table = (
-            f"| `a` | 1 | 60:00 | 1 | 1 | 2 | {day} | abc with changes |\n"
-            f"| `b` | 9 | 0:01 | 1 | 7 | 0 | {day} | def |\n"
-            f"| `b` | 5 | 0:02 | 2 | 7, 8 | 1 | {day} | ghi |\n"
+            f"| `a` | 1 | 60:00 | 30:00 | 1 | 1 | 2 | {day} | abc with changes |\n"
+            f"| `b` | 9 | 0:01 | 0:01 | 1 | 7 | 0 | {day} | def |\n"
+            f"| `b` | 5 | 0:02 | 0:03 | 2 | 7, 8 | 1 | {day} | ghi |\n"
+            f"{UNCOUNTED}"
         )
-        told = "In all, one process after another: 1.0 hours of `a`, 0.0 hours of `b`.\n"
+        told = "In all, by the processors: 0.5 hours of `a`, 0.0 hours of `b`.\n"
         text = f"{figures.HEAD}{table}\n{told}\n"
         wanted = f"Before.\n{figures.BEGIN}{text}{figures.END}After.\n"
         self.assertEqual(page, wanted)
-        self.assertIn(f"| `b` | 1,234 | 1:01 | 2 | 7, 8 | 0 | {day} | abc |", rows[0].row())
+        self.assertIn(f"| `b` | 1,234 | 1:01 | 1:30 | 2 | 7, 8 | 0 | {day} | abc |", rows[0].row())
         with self.assertRaises(figures.NoPlaceError):
             figures.with_row("Before.\n", rows[0])
 
     def test_the_page_has_a_place_for_them(self) -> None:
         page = (TOP / figures.PAGE).read_text()
-        self.assertIn("`b`", figures.with_row(page, figures.Figures("b", 1, 1, [1], 0, "abc")))
+        self.assertIn("`b`", figures.with_row(page, figures.Figures("b", 1, 1, 1, [1], 0, "abc")))
 
 
 if __name__ == "__main__":

@@ -45,10 +45,7 @@ impl FrameType {
     pub fn named(text: &str) -> FrameType
         ensures { result ≡ frames.type_named text.now }
     {
-        match quiet(text) {
-            Some(found) => found,
-            None => eliciting(text).unwrap_or(FrameType::Other),
-        }
+        quiet(text).or(eliciting(text)).unwrap_or(FrameType::Other)
     }
 
     /// Whether a packet with such a frame is ack-eliciting (RFC 9002, section 2).

@@ -50,13 +50,7 @@ impl EventName {
 fn known(name: &[u8]) -> Option<EventName>
     ensures { result ≡ names.known name.now }
 {
-    if let Some(event) = of_packets(name) {
-        return Some(event);
-    }
-    match of_recovery(name) {
-        Some(event) => Some(event),
-        None => of_connection(name),
-    }
+    of_packets(name).or(of_recovery(name).or(of_connection(name)))
 }
 
 /// What follows the last colon; all if there is none.
