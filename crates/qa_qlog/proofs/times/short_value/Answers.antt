@@ -1,4 +1,4 @@
-use Rattle.std.proofs.Common.{◌∙◌, ◌+◌, ◌*◌, ◌-◌, take, get_or, arith, ap, sym, take_all, length}
+use Rattle.std.proofs.Common.{◌∙◌, ◌+◌, ◌*◌, ◌-◌, take, get_or, arith, ap, sym}
 use Rattle.std.proofs.lemmas.Str.Parse.{digit_at}
 use Rattle.std.specs.Str.Parse.{digits_value_after}
 use Rattle.fast_float.proofs.DigitsLemmas.{is_digit}

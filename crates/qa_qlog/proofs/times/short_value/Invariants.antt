@@ -1,4 +1,4 @@
-use Rattle.std.proofs.Common.{◌≡◌, ℕ, take}
+use Rattle.std.proofs.Common.{◌≡◌, take}
 use Rattle.std.specs.Str.Parse.{digits_value_after}
 use Rattle.qa_qlog.proofs.times.short_value.Given as goal
 
