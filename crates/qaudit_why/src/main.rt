@@ -14,7 +14,7 @@ fn main(rt: HostRuntime) -> ExitCode {
     ExitCode::from(match read_arguments(&rt) {
         Ok(arguments) => {
             let is_terminal = rt.stdin().is_terminal();
-            announce(rt.alloc(), &arguments, is_terminal, &mut error);
+            let _waits = announce(rt.alloc(), &arguments, is_terminal, &mut error);
             command(
                 &rt,
                 rt.alloc(),

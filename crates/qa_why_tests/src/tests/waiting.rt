@@ -5,21 +5,25 @@ use std::alloc::AllocError;
 
 const WAITS: &str = "qaudit-why: reading standard input\n";
 
-/// What is told of these arguments.
-fn told(rt: &HostRuntime, words: &[&str], is_terminal: bool) -> Result<Vec<u8>, AllocError> {
+/// What is told of these arguments, and whether they wait for a terminal.
+fn told(
+    rt: &HostRuntime,
+    words: &[&str],
+    is_terminal: bool,
+) -> Result<(bool, Vec<u8>), AllocError> {
     let mut arguments = Vec::new(rt.alloc());
     for word in words {
         arguments.push(String::from_str(rt.alloc(), word)?)?;
     }
     let mut error = Metered::new(Vec::new(rt.alloc()));
-    announce(rt.alloc(), &arguments, is_terminal, &mut error);
-    Ok(error.into_inner())
+    let waits = announce(rt.alloc(), &arguments, is_terminal, &mut error)?;
+    Ok((waits, error.into_inner()))
 }
 
-/// Whether this is told of these arguments.
+/// Whether this is told of these arguments, and they wait exactly if it is anything.
 fn tells(rt: &HostRuntime, words: &[&str], is_terminal: bool, text: &str) -> bool {
     match told(rt, words, is_terminal) {
-        Ok(found) => found.as_slice() == text.as_bytes(),
+        Ok((waits, found)) => waits != text.is_empty() && found.as_slice() == text.as_bytes(),
         Err(_) => false,
     }
 }
