@@ -8,6 +8,7 @@ pub mod Grouped
 pub mod Guessed
 pub mod Losses
 pub mod Named
+pub mod NoAcks
 pub mod OneLine
 pub mod Opened
 pub mod Ordered

@@ -7,6 +7,7 @@ use Rattle.qa_qlog.specs.Acks as acks
 use Rattle.qa_qlog.specs.Frames as frames
 use Rattle.qa_qlog.specs.Losses as losses
 use Rattle.qa_qlog.specs.Packets as packets
+use Rattle.qa_qlog.specs.declared.frames.Content.{Content}
 use Rattle.qa_qlog.specs.declared.frames.FrameType.{FrameType}
 use Rattle.qa_qlog.specs.declared.frames.FrameType.TheVariants as type
 use Rattle.qa_qlog.specs.declared.times.Unit.{Unit}
@@ -46,14 +47,19 @@ AreAcksOf unit (j ∷ js) kept =
 abbrev pub space_of : Option Json → Option Json → Option Space
 space_of h d = option_and_then packets.space_of (packets.type_of h d)
 
+-- what the frames of a packet make of it
+abbrev pub IsContentOf : Option Json → Content → Type 0
+IsContentOf d content =
+    (js : List Json) × (frames.frames d ≡ Ok js)
+    × (content ≡ frames.content (map frames.type_of js))
+
 -- what is kept of a packet is what its record says
 pub record IsPacketOf (unit : Unit) (d : Option Json) (p : LoggedPacket) : Type 0 where
   pub space : space_of (packets.header_of d) d ≡ Some p.space
   pub number : packets.number (packets.header_of d) d ≡ Ok p.number
   pub size : packets.size (packets.header_of d) d ≡ Ok p.size
   pub probe : p.is_probe ≡ losses.is_probe d
-  pub content : (js : List Json) × (frames.frames d ≡ Ok js)
-      × (p.content ≡ frames.content (map frames.type_of js))
+  pub content : IsContentOf d p.content
   pub acks : (js : List Json) × (frames.frames d ≡ Ok js) × AreAcksOf unit js p.acks.items
 
 -- a packet that has a space is kept

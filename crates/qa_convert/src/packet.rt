@@ -4,7 +4,7 @@ ghost use Rattle.json.specs.Json as json;
 ghost use Rattle.json.specs.Json.{Json};
 ghost use Rattle.json.specs.Find.{BeginsWith, Finds, InItems};
 ghost use Rattle.qa_convert.specs.Packets as packets;
-ghost use Rattle.qa_convert.specs.Packets.{AreAcksOf, GivesPacket, IsAckOf, Keeps};
+ghost use Rattle.qa_convert.specs.Packets.{AreAcksOf, GivesPacket, IsAckOf, IsContentOf, Keeps};
 ghost use Rattle.qa_convert.specs.declared.packet.LoggedAck.{LoggedAck as Kept};
 ghost use Rattle.qa_qlog.specs.Frames as frames;
 ghost use Rattle.qa_qlog.specs.Frames.{listed};
@@ -130,7 +130,7 @@ impl LoggedPacket {
         let number = number_of(packet)?;
         let size = size_of(packet)?;
         let content = content_of(packet)?;
-        let acks = acks_of(alloc, packet, unit)?;
+        let acks = acks_of(alloc, packet, content, unit)?;
         Ok(Some(LoggedPacket {
             space,
             number,
@@ -180,9 +180,7 @@ fn size_of(packet: &Packet<'_, '_>) -> Result<Option<PacketSize>, NoValue>
 
 /// What its frames make of a packet.
 fn content_of(packet: &Packet<'_, '_>) -> Result<Content, NoValue>
-    ensures { (d : Option Json) → Finds packet.now.object d → IfOk result (λ content.
-        (js : List Json) × (frames.frames d ≡ Ok js)
-        × (content ≡ frames.content (map frames.type_of js))) }
+    ensures { (d : Option Json) → Finds packet.now.object d → IfOk result (IsContentOf d) }
 {
     match packet.frames()? {
         Some(frames) => Ok(Content::of(frames)),
@@ -190,11 +188,20 @@ fn content_of(packet: &Packet<'_, '_>) -> Result<Content, NoValue>
     }
 }
 
-/// The ACK frames of a packet.
-fn acks_of(alloc: Global, packet: &Packet<'_, '_>, unit: Unit) -> Result<Vec<LoggedAck>, NoEvent>
-    ensures { (d : Option Json) → Finds packet.now.object d → IfOk result (λ acks.
-        (js : List Json) × (frames.frames d ≡ Ok js) × AreAcksOf unit js acks.items) }
+/// The ACK frames of a packet, of whose frames this is the content.
+fn acks_of(
+    alloc: Global,
+    packet: &Packet<'_, '_>,
+    content: Content,
+    unit: Unit,
+) -> Result<Vec<LoggedAck>, NoEvent>
+    ensures { (d : Option Json) → Finds packet.now.object d → IsContentOf d content
+        → IfOk result (λ acks. (js : List Json) × (frames.frames d ≡ Ok js)
+        × AreAcksOf unit js acks.items) }
 {
+    if !content.has_ack {
+        return Ok(Vec::new(alloc));
+    }
     match packet.frames()? {
         Some(frames) => acks_among(alloc, frames, unit),
         None => Ok(Vec::new(alloc)),

@@ -1,9 +1,12 @@
-use Rattle.std.proofs.Common.{◌≡◌, List, Option, Result, Ok, Err, Vec, Global}
+use Rattle.std.proofs.Common.{◌≡◌, ◌∙◌, List, Option, Result, Ok, Err, Vec, Global, false, map, sym, ap, subst}
+use Rattle.std.proofs.lemmas.Bool.{not-true}
+use Rattle.std.specs.List.{list_any}
 use Rattle.std.specs.Prelude.{IfOk}
 use Rattle.json.specs.Json.{Json}
-use Rattle.qa_qlog.specs.Frames.{frames, listed}
+use Rattle.qa_qlog.specs.Frames.{frames, is_ack, listed, type_of}
 use Rattle.qa_convert.specs.Packets.{AreAcksOf}
 use Rattle.qa_convert.specs.declared.packet.LoggedAck.{LoggedAck}
+use Rattle.qa_convert.proofs.NoAcks.{no_acks}
 use Rattle.qa_convert.proofs.packet.acks_of.Goals as goal
 
 -- what is kept of the frames that the data has
@@ -13,7 +16,12 @@ kept_of P (Ok kept) d js has all = (js, has, all)
 kept_of P (Err e) d js has all = tt
 
 pub returns-in-Some : goal.returns-in-Some
-returns-in-Some c d finds =
+returns-in-Some c d finds content =
     let given = rw c.in-Some.is at (c.in_ok-frames.ensures d finds) in
     let keeps = λ (js : List Json) (kept : Vec LoggedAck Global). AreAcksOf c.args.unit js kept.items in
     kept_of keeps c.acks_among.result d (listed given.0) given.1 (c.acks_among.ensures given.0 given.2)
+
+pub returns-then-not-content : goal.returns-then-not-content
+returns-then-not-content c d finds content =
+    let none : list_any is_ack (map type_of content.0) ≡ false = sym (ap (λ x. x.has_ack) content.2) ∙ not-true c.args.content.has_ack c.if-not-content.true in
+    (content.0, content.1, subst (AreAcksOf c.args.unit content.0) (sym c.new.ensures.items) (no_acks c.args.unit content.0 none))
