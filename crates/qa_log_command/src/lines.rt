@@ -1,7 +1,6 @@
 //! The lines of the trace of a log, as they are written and as they are audited.
 
-ghost use Rattle.std.specs.Prelude.{◌≡◌, ◌⊎◌, false, true, not, IfOk};
-ghost use Rattle.std.specs.Result.{is_ok};
+ghost use Rattle.std.specs.Prelude.{◌≡◌, ◌⊎◌, false};
 ghost use Rattle.qa_convert.specs.OwnKeys.{AreEventLines, IsHeaderLine};
 ghost use Rattle.qa_log_command.specs.Failing.{fails_to_write};
 ghost use Rattle.qa_logs.specs.Tracing.{shown};
@@ -16,7 +15,7 @@ use std::marker::Model;
 use std::rt::Files;
 
 /// The lines of the trace of a log, some at a time. The log is read for the third time as they are
-/// asked for. Contracts see what the trace has to give, and whether nothing follows that.
+/// asked for. Contracts see what the trace has to give.
 #[derive(Drop)]
 pub struct Lines<'a, F> {
     trace: Trace,
@@ -28,18 +27,18 @@ pub struct Lines<'a, F> {
 }
 
 impl<'a, F> Model for Lines<'a, F> {
-    ghost use Rattle.qa_log_command.specs.Handing.{Handed};
+    ghost use Rattle.qa_logs.specs.Tracing.{Told};
 
-    ghost Value = { Handed };
+    ghost Value = { Told };
 
-    ghost view = { λ l. (l.trace, l.is_ended) };
+    ghost view = { λ l. l.trace };
 }
 
 impl<'a, F: Read + Drop> Lines<'a, F> {
     /// The header, with its LF; or once `advance` was called lines of events, each ended by LF, and
     /// perhaps none.
     pub fn text(&self) -> &[u8]
-        ensures text { result.now ≡ shown self.now.0 }
+        ensures text { result.now ≡ shown self.now }
         ensures lines { IsHeaderLine result.now ⊎ AreEventLines result.now }
     {
         self.trace.text()
