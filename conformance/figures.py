@@ -90,6 +90,8 @@ def hours_of(rows: Sequence[str]) -> str:
         if time:
             minutes, rest = map(int, time.split(":"))
             seconds[program] = seconds.get(program, 0) + minutes * MINUTE + rest
+    if not seconds:
+        return "No run here says what it took of the processors.\n"
     told = (f"{it / HOUR:.1f} hours of {program}" for program, it in seconds.items())
     return f"In all, by the processors: {', '.join(told)}.\n"
 

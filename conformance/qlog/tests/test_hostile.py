@@ -294,6 +294,8 @@ class Fuzz(unittest.TestCase):
         wanted = f"Before.\n{figures.BEGIN}{text}{figures.END}After.\n"
         self.assertEqual(page, wanted)
         self.assertIn(f"| `b` | 1,234 | 1:01 | 1:30 | 2 | 7, 8 | 0 | {day} | abc |", rows[0].row())
+        said = "No run here says what it took of the processors.\n"
+        self.assertEqual(figures.hours_of([UNCOUNTED]), said)
         with self.assertRaises(figures.NoPlaceError):
             figures.with_row("Before.\n", rows[0])
 
