@@ -115,7 +115,7 @@ near_capped c a b r l most short_a short_b one =
 
 -- ---- the whole part
 
-tens_over : (v e d : ℕ) → d ≤ e → v * 10 ^ e / 10 ^ d ≡ v * 10 ^ (e - d)
+pub tens_over : (v e d : ℕ) → d ≤ e → v * 10 ^ e / 10 ^ d ≡ v * 10 ^ (e - d)
 tens_over v e d fits =
     let is : e - d + d ≡ e = omega arith in
     let split : 10 ^ e ≡ 10 ^ (e - d) * 10 ^ d = ap (λ k. 10 ^ k) (sym is) ∙ pow-add 10 (e - d) d in

@@ -14,6 +14,7 @@ pub mod Places
 pub mod Plain
 pub mod Powers
 pub mod Scans
+pub mod Short
 pub mod Sizes
 pub mod Spread
 pub mod Steps

@@ -2,7 +2,6 @@
 use Rattle.std.proofs.Common.{◌≡◌, ◌∙◌, ◌+◌, ◌-◌, ◌*◌, ◌^◌, ◌<◌, ◌≤◌, ◌++◌, ◌∷◌, ◌&&◌, ◌==◌, ℕ, suc, List, [], length, take, drop, Bool, true, false, nat_le, refl, sym, ap, arith, lt_of_lt_of_le, append-nil, lit<, take_all, Some}
 use Rattle.std.proofs.lemmas.Bool.{lt-ltb, eq-eqb, leb-true, ne_eqb}
 use Rattle.std.proofs.lemmas.List.{drop_all, length-take}
-use Rattle.std.proofs.lemmas.Int.Digits.{digits_value-lt}
 use Rattle.std.proofs.Math.Nat.{pow-le-pow_right, pow-succ', mul_assoc, mul-le-mul, mul-le-mul_right}
 use Rattle.std.specs.Char.{digit_value, is_ascii_digit}
 use Rattle.std.specs.List.{prefix_len}
@@ -62,19 +61,6 @@ plain_number ds all some fits =
     let all_of : take (length ds + 0) (ds ++ []) ≡ ds = rw (append-nil, zero_more, take_all (length ds) ds (omega arith)) refl in
     let no_zeros : length ds + 0 - length (ds ++ []) ≡ 0 = rw append-nil (omega arith) in
     rw (plain_text ds all, lt-ltb 0 (length ds + 0) (omega arith), eq-eqb (length ds) (length ds) refl, none, all_of, no_zeros, lt-ltb (digits_value 10 ds * 1) (2 ^ 64) (omega arith)) (ap Some (omega arith))
-
--- the first i of some digits, which are no more than k
-pub few_below : (ds : List ℕ) (i k : ℕ) → AllDigits 10 (take i ds) → i ≤ k → digits_value 10 (take i ds) < 10 ^ k
-few_below ds i k all few =
-    lt_of_lt_of_le (digits_value-lt 10 (take i ds) all) (pow-le-pow_right (lit< tt) (omega (arith, length-take i ds)))
-
-pub plain_whole : (ds : List ℕ) (i v n : ℕ) → length ds ≤ i → length ds ≤ 19 → 0 < length ds → AllDigits 10 (take i ds)
-    → v ≡ digits_value 10 (take i ds) → Some v ≡ Some n → unsigned ds ≡ Some n
-plain_whole ds i v n over few some all is same =
-    let whole : take i ds ≡ ds = take_all i ds over in
-    let digits : AllDigits 10 ds = rw whole at all in
-    let below : digits_value 10 ds < 10 ^ 19 = lt_of_lt_of_le (digits_value-lt 10 ds digits) (pow-le-pow_right (lit< tt) few) in
-    plain_number ds digits some (omega arith) ∙ ap (λ xs. Some (digits_value 10 xs)) (sym whole) ∙ ap Some (sym is) ∙ same
 
 pub few_after : (n : ℕ) (ds : List ℕ) (i k : ℕ) → AllDigits 10 ds → i ≤ k → n < 1000000000
     → digits_value_after 10 n (take i ds) < 1000000000 * 10 ^ k

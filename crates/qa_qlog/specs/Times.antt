@@ -124,6 +124,10 @@ small = 10 ^ 9
 abbrev pub few : ℕ
 few = 10
 
+-- so many digits fit into 64 bits
+abbrev pub fitting : ℕ
+fitting = 19
+
 -- not all digits are 0 then
 abbrev pub begins_above_zero : List ℕ → Bool
 begins_above_zero [] = false

@@ -7,12 +7,9 @@ ghost use Rattle.qa_qlog.specs.Numbers as numbers;
 use crate::keys::{Key, NoValue};
 use crate::records::written;
 use crate::says::{key_at, says};
-use crate::times::{NoTime, Unit, duration, split_sign};
+use crate::times::{FITTING_DIGITS, NoTime, Unit, digits_behind, duration, split_sign};
 use fast_float::Numeral;
 use json::Element;
-
-/// How many digits always fit into 64 bits.
-const FITTING_DIGITS: usize = 19;
 
 /// The whole number of 64 bits that all of a text is, perhaps with a sign.
 fn whole(text: &[u8]) -> Option<u64>
@@ -27,21 +24,15 @@ fn whole(text: &[u8]) -> Option<u64>
     }
 }
 
-/// The number that digits alone are, if they are so few that they fit: mostly all of a text is one.
+/// The number that a text of digits is, if they are so few that they fit into 64 bits: most numbers
+/// are written so.
 fn plain(text: &[u8]) -> Option<u64>
     ensures { (n : ℕ) → result ≡ Some n → numbers.unsigned text.now ≡ Some n }
 {
     if text.is_empty() || text.len() > FITTING_DIGITS {
         return None;
     }
-    let mut value: u64 = 0;
-    for digit in text {
-        if !digit.is_ascii_digit() {
-            return None;
-        }
-        value = value * 10 + (*digit - b'0') as u64;
-    }
-    Some(value)
+    digits_behind(0, text)
 }
 
 /// The whole number of 64 bits that all of a text without a sign is.

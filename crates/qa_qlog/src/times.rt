@@ -1,12 +1,14 @@
 //! Times and durations as whole nanoseconds, by the digits of a decimal text.
-ghost use Rattle.std.specs.Prelude.{◌≡◌, ◌⊎◌, ◌≤◌, ◌<◌, ◌+◌, ◌*◌, ◌^◌, ◌++◌, ℕ, length, min, take, true};
+ghost use Rattle.std.specs.Prelude.{◌≡◌, ◌⊎◌, ◌≤◌, ◌<◌, ◌+◌, ◌*◌, ◌^◌, ◌++◌, ◌∷◌, [], ℕ};
+ghost use Rattle.std.specs.Prelude.{length, min, take, true, Err, IfErr, IfOk, IfSome, Ok};
 ghost use Rattle.std.specs.List.{prefix_len};
 ghost use Rattle.std.specs.Str.Parse.{AllDigits, digits_value, digits_value_after};
 ghost use Rattle.std.specs.Str.Parse.{starts_with_minus, without_leading_sign};
-ghost use Rattle.fast_float.specs.Text.{tens_up};
+ghost use Rattle.fast_float.specs.Text.{Parts, tens_up};
 ghost use Rattle.qa_qlog.specs.Times as times;
 
 use fast_float::Numeral;
+use memchr::memchr;
 use thiserror::Error;
 
 /// Stands for any larger number: no range reaches it.
@@ -15,6 +17,8 @@ const CAP: u128 = 1 << 65;
 const SMALL: u128 = 1_000_000_000;
 
 const FEW: usize = 10;
+/// How many digits always fit into 64 bits.
+pub(crate) const FITTING_DIGITS: usize = 19;
 /// More nanoseconds than a time has.
 const LIMIT: u128 = 1 << 63;
 /// The most nanoseconds of a duration.
@@ -80,8 +84,8 @@ pub fn time(text: &[u8], unit: Unit) -> Result<i64, NoTime>
     ensures { result ≡ times.time unit text.now }
 {
     let (is_negative, unsigned) = split_sign(text);
-    match numeral(unsigned) {
-        Ok(number) => time_of(is_negative, size(&number, unit)),
+    match nanoseconds(unsigned, unit) {
+        Ok(size) => time_of(is_negative, size),
         Err(fault) => Err(fault),
     }
 }
@@ -91,10 +95,80 @@ pub fn duration(text: &[u8], unit: Unit) -> Result<u64, NoTime>
     ensures { result ≡ times.duration unit text.now }
 {
     let (is_negative, unsigned) = split_sign(text);
-    match numeral(unsigned) {
-        Ok(number) => duration_of(is_negative, size(&number, unit)),
+    match nanoseconds(unsigned, unit) {
+        Ok(size) => duration_of(is_negative, size),
         Err(fault) => Err(fault),
     }
+}
+
+/// The whole nanoseconds that a text without a sign says, or the cap if it is less.
+fn nanoseconds(text: &[u8], unit: Unit) -> Result<u128, NoTime>
+    ensures ok { IfOk result (λ n. (p : Parts) × (times.numeral text.now ≡ Ok p)
+        × (n ≡ min (times.size unit p) times.cap)) }
+    ensures err { IfErr result (λ fault. times.numeral text.now ≡ Err fault) }
+{
+    if let Some(number) = short_number(text, unit) {
+        return Ok(number as u128);
+    }
+    match numeral(text) {
+        Ok(number) => Ok(size(&number, unit)),
+        Err(fault) => Err(fault),
+    }
+}
+
+/// The nanoseconds of digits, perhaps with a point among them, if they are so few that they fit
+/// into 64 bits, as those of most times and durations do.
+fn short_number(text: &[u8], unit: Unit) -> Option<u64>
+    ensures { IfSome result (λ n. (p : Parts) × (times.numeral text.now ≡ Ok p)
+        × (n ≡ times.size unit p)) }
+{
+    let (whole, fraction) = split_point(text);
+    let places = unit.places() as usize;
+    if whole.is_empty() || places < fraction.len() || FITTING_DIGITS < whole.len() + places {
+        return None;
+    }
+    let number = digits_behind(digits_behind(0, whole)?, fraction)?;
+    Some(with_zeros(number, places - fraction.len()))
+}
+
+/// What is in front of the first point of a text, and what is behind it.
+fn split_point(text: &[u8]) -> (&[u8], &[u8])
+    ensures { (text.now ≡ result.0.now ++ 46 ∷ result.1.now)
+        ⊎ ((text.now ≡ result.0.now) × (result.1.now ≡ [])) }
+{
+    match memchr(b'.', text) {
+        Some(place) => (&text[..place], &text[place + 1..]),
+        None => (text, &[]),
+    }
+}
+
+/// The number that digits are behind those of another; none if some byte is no digit.
+pub(crate) fn digits_behind(start: u64, digits: &[u8]) -> Option<u64>
+    requires { (start + 1) * 10 ^ length digits.now ≤ 10 ^ times.fitting }
+    ensures digits { IfSome result (λ n. AllDigits 10 digits.now) }
+    ensures value { IfSome result (λ n. n ≡ digits_value_after 10 start digits.now) }
+    ensures below { IfSome result (λ n. n + 1 ≤ (start + 1) * 10 ^ length digits.now) }
+{
+    let mut value = start;
+    for digit in digits {
+        if !digit.is_ascii_digit() {
+            return None;
+        }
+        value = value * 10 + (*digit - b'0') as u64;
+    }
+    Some(value)
+}
+
+/// A number with so many zeros behind it.
+fn with_zeros(number: u64, zeros: usize) -> u64
+    requires { number * 10 ^ zeros < 10 ^ times.fitting }
+    ensures { result ≡ number * 10 ^ zeros }
+{
+    let mut value = number;
+    for _i in 0..zeros {
+        value *= 10;
+    }
+    value
 }
 
 /// Whether all digits of a number are 0, but for those of its exponent.
