@@ -1,10 +1,13 @@
 -- That guesses can be written and read.
 use Rattle.std.proofs.Common.{◌≡◌, ◌∙◌, ◌≤◌, ◌<◌, ◌+◌, ℕ, List, [], ◌∷◌, ◌++◌, get_or, length, map, take, true, refl, sym, ap, arith}
+use Rattle.std.proofs.lemmas.Bool.Decides.{Decides-eqb}
 use Rattle.std.proofs.lemmas.List.{map-append, map_more}
-use Rattle.serde_json.specs.Data.{Data, array, item, items_depth, string}
+use Rattle.serde_json.specs.Data.{Data, array, item, items_depth, no_members, string}
 use Rattle.serde_json.specs.View.{items_of}
 use Rattle.qa_format.specs.format.Simple.{AreSimple, IsKept, is_ascii}
-use Rattle.qa_convert.specs.Guesses.{guess_text, texts_of}
+use Rattle.qa_convert.specs.OwnKeys.{AreOwn}
+use Rattle.qa_convert.specs.Outputs.{guessed}
+use Rattle.qa_convert.specs.Guesses.{guess_number, guess_text, is_guess, texts_of}
 use Rattle.qa_convert.specs.declared.guess.Guess.{Guess}
 use Rattle.qa_convert.specs.declared.guess.Guess.TheVariants as guess
 
@@ -45,6 +48,10 @@ texts_are_shallow (g ∷ gs) = omega (arith, texts_are_shallow gs)
 pub guesses_are_kept : (gs : List Guess) → IsKept (array (texts_of gs))
 guesses_are_kept gs = record { simple = texts_are_simple gs; shallow = omega (arith, texts_are_shallow gs) }
 
+pub guessed_are_own : (gs : List Guess) → AreOwn (guessed gs no_members)
+guessed_are_own [] = tt
+guessed_are_own (g ∷ gs) = ((refl, refl), guesses_are_kept (g ∷ gs), tt)
+
 -- ---- a list of them
 
 abbrev pub text_value : Guess → Data
@@ -63,3 +70,48 @@ one_more f values v gs i g listed one at inside =
     ∙ ap (λ xs. xs ++ f v ∷ []) listed
     ∙ ap (λ x. map text_value (take i gs) ++ x ∷ []) (one ∙ ap text_value at)
     ∙ sym (map_more text_value gs i g inside)
+
+-- ---- whether two are one
+
+guesses : List Guess
+guesses =
+    guess.DatagramByWindow ∷ guess.DatagramByPacket ∷ guess.DatagramLeast ∷ guess.NoMaxAckDelay ∷
+    guess.NoWindow ∷ guess.HiddenWindow ∷ guess.InitialRtt ∷ guess.ProbeByCount ∷
+    guess.ProbeByPing ∷ guess.ProbeByRoom ∷ guess.ProbeByTrigger ∷ guess.Size ∷
+    guess.SizeByGrowth ∷ guess.TimerSpace ∷ guess.LossTimer ∷ guess.Discard ∷ guess.Confirmed ∷
+    guess.Delay ∷ guess.Arrival ∷ guess.Moment ∷ guess.LimitedByWindow ∷ guess.LeaveProbe ∷
+    guess.LeaveRecovery ∷ guess.TimeBack ∷ []
+
+guess_of : ℕ → Guess
+guess_of n = get_or guesses n guess.Size
+
+guess_of-number : (g : Guess) → guess_of (guess_number g) ≡ g
+unfolding guess_of guesses
+guess_of-number guess.DatagramByWindow = refl
+guess_of-number guess.DatagramByPacket = refl
+guess_of-number guess.DatagramLeast = refl
+guess_of-number guess.NoMaxAckDelay = refl
+guess_of-number guess.NoWindow = refl
+guess_of-number guess.HiddenWindow = refl
+guess_of-number guess.InitialRtt = refl
+guess_of-number guess.ProbeByCount = refl
+guess_of-number guess.ProbeByPing = refl
+guess_of-number guess.ProbeByRoom = refl
+guess_of-number guess.ProbeByTrigger = refl
+guess_of-number guess.Size = refl
+guess_of-number guess.SizeByGrowth = refl
+guess_of-number guess.TimerSpace = refl
+guess_of-number guess.LossTimer = refl
+guess_of-number guess.Discard = refl
+guess_of-number guess.Confirmed = refl
+guess_of-number guess.Delay = refl
+guess_of-number guess.Arrival = refl
+guess_of-number guess.Moment = refl
+guess_of-number guess.LimitedByWindow = refl
+guess_of-number guess.LeaveProbe = refl
+guess_of-number guess.LeaveRecovery = refl
+guess_of-number guess.TimeBack = refl
+
+pub same_guess : (g h : Guess) → is_guess g h ≡ true → g ≡ h
+same_guess g h is =
+    sym (guess_of-number g) ∙ ap guess_of ((Decides-eqb (guess_number g) (guess_number h)).0 is) ∙ guess_of-number h

@@ -1,6 +1,7 @@
 -- The text of an object with more members behind its own, by the texts of both.
-use Rattle.std.proofs.Common.{◌≡◌, ◌∙◌, ℕ, ◌-◌, ◌≤◌, Option, Some, None, List, [], ◌∷◌, ◌++◌, length, take, Bool, true, false, refl, sym, ap, append_assoc, length-append, arith}
+use Rattle.std.proofs.Common.{◌≡◌, ◌∙◌, ℕ, ◌-◌, ◌≤◌, Option, Some, None, List, [], ◌∷◌, ◌++◌, length, take, Bool, true, false, Result, refl, sym, subst, ap, append_assoc, length-append, arith}
 use Rattle.std.proofs.Math.Seq.{take-append_seam}
+use Rattle.std.specs.Prelude.{OnOk}
 use Rattle.json.specs.Print.{quoted}
 use Rattle.serde_json.specs.Data.{unsigned, negative, float, Data, null, boolean, number, string, array, Items, no_items, item, Members, no_members, member, object}
 use Rattle.serde_json.specs.Written.{comma_if, compact_text, members_text}
@@ -14,7 +15,7 @@ use Rattle.qa_format.specs.declared.line.Line.{Line}
 use Rattle.qa_format.specs.declared.line.Line.TheVariants as line
 use Rattle.qa_format.specs.format.Simple.{IsSimple, AreSimple, HaveSimple}
 use Rattle.qa_format.specs.format.Written.{event_pairs, header_pairs, members, written}
-use Rattle.qa_convert.specs.OwnKeys.{AreOwn, followed, has_member, joined, noted}
+use Rattle.qa_convert.specs.OwnKeys.{AreOwn, followed, has_member, joined, noted, own_text, with_own}
 
 -- the text of members without the closing bracket
 abbrev body : Bool → Members → List ℕ
@@ -43,8 +44,8 @@ followed_none : (ms : Members) → followed ms no_members ≡ ms
 followed_none no_members = refl
 followed_none (member k d ms) = ap (member k d) (followed_none ms)
 
-own_text : (later : Bool) (ms : Members) → members_text later ms ≡ body later ms ++ 125 ∷ []
-own_text later ms = ap (members_text later) (sym (followed_none ms)) ∙ followed_text later ms no_members
+closed_text : (later : Bool) (ms : Members) → members_text later ms ≡ body later ms ++ 125 ∷ []
+closed_text later ms = ap (members_text later) (sym (followed_none ms)) ∙ followed_text later ms no_members
 
 but_last : (xs : List ℕ) (x : ℕ) → take (length (xs ++ x ∷ []) - 1) (xs ++ x ∷ []) ≡ xs
 but_last xs x =
@@ -64,7 +65,7 @@ spliced (member k d ms) own has some =
     ap (λ r. 123 ∷ r) (followed_text false (member k d ms) own)
     ∙ ap (λ r. inner ++ r) (later_text own some)
     ∙ ap (λ r. r ++ 44 ∷ members_text false own)
-    (sym (ap (λ t. take (length (123 ∷ t) - 1) (123 ∷ t)) (own_text false (member k d ms)) ∙ but_last inner 125))
+    (sym (ap (λ t. take (length (123 ∷ t) - 1) (123 ∷ t)) (closed_text false (member k d ms)) ∙ but_last inner 125))
 
 -- ---- a line
 
@@ -100,6 +101,30 @@ pub noted_joined : (x : Line) (own : Members) → has_member own ≡ true → 1 
 noted_joined line.Blank own some long = absurd (omega (arith, long))
 noted_joined (line.Header s) own some long = spliced (members (header_pairs s)) own (header_has s) some
 noted_joined (line.Event e) own some long = spliced (members (event_pairs e)) own (event_has e) some
+
+pub own_text_some : (own : Members) → has_member own ≡ true → own_text own ≡ compact_text (object own)
+own_text_some no_members some = cc
+own_text_some (member k d ms) some = refl
+
+with_none : (text : List ℕ) → with_own text [] ≡ text
+with_none [] = refl
+with_none (b ∷ bs) = refl
+
+with_some : (text : List ℕ) (c : ℕ) (cs : List ℕ) → 1 ≤ length text → with_own text (c ∷ cs) ≡ joined text (c ∷ cs)
+with_some [] c cs long = absurd (omega (arith, long))
+with_some (b ∷ bs) c cs long = refl
+
+-- the text of a line with own keys is that of the line, with that of the keys
+pub noted_with : (x : Line) (own : Members) → noted x own ≡ with_own (written x) (own_text own)
+noted_with line.Blank own = refl
+noted_with (line.Header s) no_members = noted_alone (line.Header s) ∙ sym (with_none (written (line.Header s)))
+noted_with (line.Header s) (member k d ms) = noted_joined (line.Header s) (member k d ms) refl (omega arith)
+noted_with (line.Event e) no_members = noted_alone (line.Event e) ∙ sym (with_none (written (line.Event e)))
+noted_with (line.Event e) (member k d ms) = noted_joined (line.Event e) (member k d ms) refl (omega arith)
+
+-- the same of the lines of a trace with one more
+pub with_line : {A E : Type 0} (r : Result A E) (before after text line : List ℕ) → text ≡ line → OnOk r (after ≡ before ++ (text ++ 10 ∷ [])) → OnOk r (after ≡ before ++ (line ++ 10 ∷ []))
+with_line r before after text line same = subst (λ t. OnOk r (after ≡ before ++ (t ++ 10 ∷ []))) same
 
 -- ---- own values have no float
 

@@ -52,6 +52,21 @@ IsText _ = ⊥
 abbrev pub joined : List ℕ → List ℕ → List ℕ
 joined text own = take (length text - 1) text ++ 44 ∷ drop 1 own
 
+-- the text of own keys: where there is none, no object is written
+abbrev pub own_text : Members → List ℕ
+own_text no_members = []
+own_text (member k d ms) = compact_text (object (member k d ms))
+
+-- the text of a line with that of own keys; a blank line has none
+abbrev pub with_own : List ℕ → List ℕ → List ℕ
+with_own [] own = []
+with_own (b ∷ bs) [] = b ∷ bs
+with_own (b ∷ bs) (c ∷ cs) = joined (b ∷ bs) (c ∷ cs)
+
+-- it is the text of own keys
+abbrev pub IsOwnText : List ℕ → Type 0
+IsOwnText text = (own : Members) × AreOwn own × (text ≡ own_text own)
+
 -- the text of a line with keys of the converter's own behind its keys; a blank line has none
 abbrev pub noted : Line → Members → List ℕ
 noted line.Blank own = []

@@ -1,9 +1,9 @@
 -- Events on their way from the log to the lines: each joins those that wait for their order, and
 -- goes on into groups.
-use Rattle.std.specs.Prelude.{◌++◌, ◌||◌, ℕ, Bool, false, List, [], ◌∷◌, Option, Some}
+use Rattle.std.specs.Prelude.{◌≡◌, ◌++◌, ◌||◌, ℕ, Bool, false, List, [], ◌∷◌, Option, Some}
 use Rattle.std.specs.Prelude.{None, if◌then◌else◌, nat_le, nat_lt, unwrap_or}
 use Rattle.qa_base.specs.values.PerSpace.{of_space}
-use Rattle.qa_convert.specs.Groups.{Gathers, Held}
+use Rattle.qa_convert.specs.Groups.{Ends, Gathers, Held}
 use Rattle.qa_convert.specs.Orders.{Follows}
 use Rattle.qa_convert.specs.Telling.{TellsOf, Told}
 use Rattle.qa_convert.specs.declared.event.LoggedEvent.{LoggedEvent}
@@ -54,4 +54,17 @@ pub record Passes (waits : List LoggedEvent) (old : Held) (ready : List Group) (
   pub follows : Follows waits more (ordered ++ waits')
   pub written : List Group
   pub gathers : Gathers old ordered new ready (written ++ ready')
+  pub told : TellsOf written before after
+
+-- the log ends: the events that wait go on into groups, in their order unless the log is torn off,
+-- and what is held is handed out and written
+pub record Closes (is_torn : Bool) (waits : List LoggedEvent) (old : Held) (ready : List Group)
+    (before after : Told) : Type 0 where
+  pub ordered : List LoggedEvent
+  pub follows : is_torn ≡ false → Follows waits [] ordered
+  pub held : Held
+  pub gathered : List Group
+  pub gathers : Gathers old ordered held ready gathered
+  pub written : List Group
+  pub ends : Ends is_torn held gathered written
   pub told : TellsOf written before after

@@ -173,7 +173,9 @@ impl Conversion {
     }
 
     /// The log ends.
-    pub(crate) fn end(&mut self) -> Result<(), AllocError> {
+    pub(crate) fn end(&mut self) -> Result<(), AllocError>
+        ensures told { told_in self.new.writing ≡ told_in self.old.writing }
+    {
         if self.are_timers_late == Some(true) {
             self.writing.notes.limit(Limit::TimeThreshold)?;
         }

@@ -3,7 +3,7 @@ ghost use Rattle.std.specs.Prelude.{◌≡◌, ◌∷◌, [], IfOk, OnOk, false}
 ghost use Rattle.qa_convert.specs.Groups.{Gathers};
 ghost use Rattle.qa_convert.specs.Orders.{Follows};
 ghost use Rattle.qa_convert.specs.Passing as passing;
-ghost use Rattle.qa_convert.specs.Passing.{Passes, counted, waiting};
+ghost use Rattle.qa_convert.specs.Passing.{Closes, Passes, counted, waiting};
 ghost use Rattle.qa_convert.specs.Telling.{TellsOf, told_in};
 
 use crate::conversion::{Conversion, Terms};
@@ -13,11 +13,12 @@ use crate::omission::Omission;
 use crate::order::InOrder;
 use crate::packet::LoggedPacket;
 use crate::place::Place;
+use crate::room::Room;
 use crate::sizes::Sizes;
 use crate::survey::{Retry, Survey};
-use crate::surveying::{Cursor, NoRecord};
+use crate::surveying::{Cursor, Named, NoRecord};
 use crate::writing::{NoLine, Writing};
-use json::{Element, Error as JsonError, Scratch, Tape};
+use json::{Element, Error as JsonError, Tape};
 use qa_qlog::{EventName, Head, Packet};
 use std::alloc::{AllocError, Global};
 use std::collections::VecDeque;
@@ -99,14 +100,14 @@ impl Converting {
     /// Takes the next text, which begins there. After an error it is of no use.
     pub(crate) fn push(
         &mut self,
-        scratch: &mut Scratch,
+        room: &mut Room,
         text: &[u8],
         place: Place,
     ) -> Result<(), NoMore> {
         let Ok(text) = str::from_utf8(text) else {
             return Err(NoMore::Record(NoRecord::NotJson));
         };
-        match Tape::parse(text, scratch, Vec::new(self.alloc)) {
+        match Tape::parse(text, &mut room.scratch, Vec::new(&room.nodes)) {
             Ok(tape) => self.take(&tape.root(), place),
             Err(JsonError::Invalid) => Err(NoMore::Record(NoRecord::NotJson)),
             Err(_) => Err(NoMore::Record(NoRecord::OutOfMemory)),
@@ -130,45 +131,40 @@ impl Converting {
         let Some(named) = self.cursor.next(&self.head, record, place)? else {
             return Ok(());
         };
-        let at = named.at;
-        if named.name == EventName::PacketsLost {
-            return self.take_losses(record, at);
+        let Named { name, at, object } = named;
+        if name == EventName::PacketsLost {
+            return self.take_losses(&object, at);
         }
-        let said = self.said(record, named.name)?;
+        let said = self.said(name, &Packet::of(object))?;
         self.pass(LoggedEvent { at, said })?;
         Ok(())
     }
 
     /// What a record of this name says, with the size of a packet that is sent.
-    fn said(&self, record: &Element<'_, '_>, name: EventName) -> Result<Said, NoRecord> {
-        let unit = self.head.unit;
-        match Said::of(self.alloc, name, self.head.data(record), unit)? {
-            Said::Sent(packet) => Ok(Said::Sent(self.sized(record, packet)?)),
+    fn said(&self, name: EventName, packet: &Packet<'_, '_>) -> Result<Said, NoRecord> {
+        match Said::of(self.alloc, name, packet, self.head.unit)? {
+            Said::Sent(sent) => Ok(Said::Sent(self.sized(packet, sent)?)),
             said => Ok(said),
         }
     }
 
     /// A packet that is sent, with its size.
-    fn sized(
-        &self,
-        record: &Element<'_, '_>,
-        packet: LoggedPacket,
-    ) -> Result<LoggedPacket, NoRecord> {
-        if packet.size.is_some() {
-            return Ok(packet);
+    fn sized(&self, packet: &Packet<'_, '_>, sent: LoggedPacket) -> Result<LoggedPacket, NoRecord> {
+        if sent.size.is_some() {
+            return Ok(sent);
         }
-        let mut packet = packet;
-        if let Some(found) = self.sizes.find(&Packet::of(self.head.data(record)))? {
-            packet.size = Some(found.size);
-            packet.is_size_guessed = true;
-            packet.keeps_room = found.keeps_room;
+        let mut sent = sent;
+        if let Some(found) = self.sizes.find(packet)? {
+            sent.size = Some(found.size);
+            sent.is_size_guessed = true;
+            sent.keeps_room = found.keeps_room;
         }
-        Ok(packet)
+        Ok(sent)
     }
 
-    /// Takes the losses that a record names.
-    fn take_losses(&mut self, record: &Element<'_, '_>, at: At) -> Result<(), NoMore> {
-        let losses = match losses_of(self.alloc, &self.head.data(record)) {
+    /// Takes the losses that a record names, whose data is this object.
+    fn take_losses(&mut self, object: &Option<Element<'_, '_>>, at: At) -> Result<(), NoMore> {
+        let losses = match losses_of(self.alloc, object) {
             Ok(losses) => losses,
             Err(fault) => return Err(NoMore::Record(NoRecord::from(fault))),
         };
@@ -280,15 +276,17 @@ impl Converting {
     }
 
     /// The log ends, perhaps torn off.
-    pub(crate) fn end(&mut self, is_torn: bool) -> Result<(), NoLine> {
+    pub(crate) fn end(&mut self, is_torn: bool) -> Result<(), NoLine>
+        ensures { OnOk result (Closes is_torn (waiting self.old.events.items self.old.order)
+            self.old.groups self.old.ready.items (told_in self.old.conversion.writing)
+            (told_in self.new.conversion.writing)) }
+    {
         self.let_go(is_torn)?;
         self.group()?;
         self.groups.end(is_torn, &mut self.ready)?;
         self.write_groups()?;
         self.conversion.end()?;
-        if let Some(retry) = self.retry {
-            self.warn_of(retry)?;
-        }
+        self.warn()?;
         Ok(())
     }
 
@@ -296,6 +294,7 @@ impl Converting {
     fn let_go(&mut self, is_torn: bool) -> Result<(), AllocError>
         ensures order { OnOk result (is_torn ≡ false → Follows
             (waiting self.old.events.items self.old.order) [] self.new.events.items) }
+        ensures conversion { self.new.conversion ≡ self.old.conversion }
         ensures groups { self.new.groups ≡ self.old.groups }
         ensures ready { self.new.ready.items ≡ self.old.ready.items }
     {
@@ -305,8 +304,13 @@ impl Converting {
         }
     }
 
-    /// Tells that the trace begins after a Retry.
-    fn warn_of(&mut self, retry: Retry) -> Result<(), AllocError> {
+    /// Tells that the trace begins after a Retry, if it does.
+    fn warn(&mut self) -> Result<(), AllocError>
+        ensures told { told_in self.new.conversion.writing ≡ told_in self.old.conversion.writing }
+    {
+        let Some(retry) = self.retry else {
+            return Ok(());
+        };
         let text = retry.text(self.alloc, self.sent_before)?;
         self.conversion.writing.notes.warnings.push(text)?;
         Ok(())

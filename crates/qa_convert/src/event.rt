@@ -135,52 +135,54 @@ pub struct LoggedEvent {
 }
 
 impl Said {
-    /// What a record of this name says, whose data is this object. Durations have this unit. Of a
+    /// What a record of this name says, whose data this packet has. Durations have this unit. Of a
     /// `packets_lost`, see `losses_of`; here it says that a packet of no space was lost.
-    pub fn of<'t, 'a>(
+    pub fn of(
         alloc: Global,
         name: EventName,
-        object: Option<Element<'t, 'a>>,
+        packet: &Packet<'_, '_>,
         unit: Unit,
     ) -> Result<Said, NoEvent>
-        ensures { (d : Option Json) → Finds object.entry d → IfOk result (Says unit name d) }
+        ensures { (d : Option Json) → Finds packet.now.object d
+            → Finds packet.now.header (header_of d) → IfOk result (Says unit name d) }
     {
+        let object = &packet.object;
         match name {
-            EventName::PacketSent => sent_of(alloc, object, unit),
-            EventName::PacketReceived => received_of(alloc, object, unit),
-            EventName::PacketLost => lost_of(object),
+            EventName::PacketSent => sent_of(alloc, packet, unit),
+            EventName::PacketReceived => received_of(alloc, packet, unit),
+            EventName::PacketLost => lost_of(packet, is_repeated(object)),
             EventName::PacketsLost => Ok(Said::OtherLost),
-            EventName::MetricsUpdated => Ok(Said::Report(report_of(&object, unit)?)),
-            EventName::RecoveryParametersSet => Ok(Said::Recovery(recovery_of(&object, unit)?)),
-            EventName::CongestionStateUpdated => Ok(Said::State(is_application_limited(&object))),
-            EventName::LossTimerUpdated => Ok(timer_of(&object)),
-            EventName::KeyUpdated => Ok(Said::KeysCame(key_space(&object))),
-            EventName::KeyRetired => Ok(Said::KeysGone(key_space(&object))),
-            EventName::KeyDiscarded => Ok(Said::KeysGone(key_space(&object))),
-            EventName::ParametersSet => parameters_of(&object, unit),
+            EventName::MetricsUpdated => Ok(Said::Report(report_of(object, unit)?)),
+            EventName::RecoveryParametersSet => Ok(Said::Recovery(recovery_of(object, unit)?)),
+            EventName::CongestionStateUpdated => Ok(Said::State(is_application_limited(object))),
+            EventName::LossTimerUpdated => Ok(timer_of(object)),
+            EventName::KeyUpdated => Ok(Said::KeysCame(key_space(object))),
+            EventName::KeyRetired => Ok(Said::KeysGone(key_space(object))),
+            EventName::KeyDiscarded => Ok(Said::KeysGone(key_space(object))),
+            EventName::ParametersSet => parameters_of(object, unit),
         }
     }
 }
 
 /// A packet that was sent.
-fn sent_of(alloc: Global, object: Option<Element<'_, '_>>, unit: Unit) -> Result<Said, NoEvent>
-    ensures { (d : Option Json) → Finds object.entry d → IfOk result (SaysSent unit d) }
+fn sent_of(alloc: Global, packet: &Packet<'_, '_>, unit: Unit) -> Result<Said, NoEvent>
+    ensures { (d : Option Json) → Finds packet.now.object d
+        → Finds packet.now.header (header_of d) → IfOk result (SaysSent unit d) }
 {
-    match LoggedPacket::of(alloc, object, unit)? {
+    match LoggedPacket::of(alloc, packet, unit)? {
         Some(packet) => Ok(Said::Sent(packet)),
         None => Ok(Said::OtherSent),
     }
 }
 
 /// A packet that came.
-fn received_of(alloc: Global, object: Option<Element<'_, '_>>, unit: Unit) -> Result<Said, NoEvent>
-    ensures { (d : Option Json) → Finds object.entry d → IfOk result (SaysReceived unit d) }
+fn received_of(alloc: Global, packet: &Packet<'_, '_>, unit: Unit) -> Result<Said, NoEvent>
+    ensures { (d : Option Json) → Finds packet.now.object d
+        → Finds packet.now.header (header_of d) → IfOk result (SaysReceived unit d) }
 {
-    let is_probe = is_probe(&object);
-    let packet = Packet::of(object);
-    match LoggedPacket::in_packet(alloc, &packet, is_probe, unit)? {
+    match LoggedPacket::of(alloc, packet, unit)? {
         Some(packet) => Ok(Said::Received(packet)),
-        None => Ok(Said::OtherReceived(is_retry(&packet))),
+        None => Ok(Said::OtherReceived(is_retry(packet))),
     }
 }
 
@@ -193,15 +195,7 @@ fn is_retry(packet: &Packet<'_, '_>) -> bool
 }
 
 /// A packet that was declared lost.
-fn lost_of(object: Option<Element<'_, '_>>) -> Result<Said, NoEvent>
-    ensures { (d : Option Json) → Finds object.entry d → IfOk result (SaysLost d) }
-{
-    let is_repeated = is_repeated(&object);
-    lost_in(&Packet::of(object), is_repeated)
-}
-
-/// A packet that was declared lost, by what a record says of it.
-fn lost_in(packet: &Packet<'_, '_>, is_repeated: bool) -> Result<Said, NoEvent>
+fn lost_of(packet: &Packet<'_, '_>, is_repeated: bool) -> Result<Said, NoEvent>
     ensures { (d : Option Json) → Finds packet.now.object d
         → Finds packet.now.header (header_of d) → is_repeated ≡ losses.is_repeated d
         → IfOk result (SaysLost d) }
@@ -234,7 +228,7 @@ pub(crate) fn losses_of(
             header: Some(header),
             object: None,
         };
-        let said = lost_in(&packet, false)?;
+        let said = lost_of(&packet, false)?;
         push(&mut losses, said)?;
     }
     Ok(losses)

@@ -3,13 +3,16 @@
 ghost use Rattle.qa_convert.specs.Telling.{told, with_event};
 ghost use Rattle.std.specs.Prelude.{◌≡◌, ◌++◌, ◌∷◌, [], OnErr, OnOk, IfOk, true};
 ghost use Rattle.qa_base.specs.values.Events.{fits};
-ghost use Rattle.qa_convert.specs.OwnKeys.{AreEventLines, AreOwn, IsHeaderLine, noted};
+ghost use Rattle.qa_convert.specs.OwnKeys.{AreEventLines, AreOwn, IsHeaderLine, IsOwnText};
+ghost use Rattle.qa_convert.specs.OwnKeys.{noted, with_own};
+ghost use Rattle.qa_format.specs.format.Written.{written};
 ghost use Rattle.serde_json.specs.View.{members_view};
 ghost use Rattle.qa_format.specs.declared.line.Line.TheVariants as lines;
 
-use crate::noted::{NotedFault, push_noted};
+use crate::noted::{NotedFault, own_text_of, push_noted, push_with_own};
 use crate::own::OwnKeys;
 use qa_base::{Event, Header};
+use qa_fast_writer::push_event;
 use qa_format::Line;
 use std::alloc::Global;
 use std::marker::Model;
@@ -18,7 +21,7 @@ use std::marker::Model;
 #[derive(Drop)]
 pub(crate) struct EventLines {
     text: Vec<u8>,
-    /// The next line, until it is whole.
+    /// The text of the next line, without own keys.
     next: Vec<u8>,
 }
 
@@ -62,9 +65,26 @@ impl EventLines {
         ensures err { OnErr result (self.new ≡ self.old) }
         ensures told { OnOk result (told self.new ≡ with_event (told self.old) event) }
     {
+        let text = own_text_of(alloc, own)?;
+        self.push_text(event, text.as_bytes())
+    }
+
+    /// Appends the line of an event, with own keys of which the text is given, and LF.
+    ///
+    /// Asks for an event that fits (`Event::fits`): no line says another. `TooLong` comes if the
+    /// line has more than 65,536 bytes, and `OutOfMemory` if it is out of memory; each leaves the
+    /// lines.
+    pub(crate) fn push_text(&mut self, event: Event, own: &[u8]) -> Result<(), NotedFault>
+        requires fitting { fits event ≡ true }
+        requires own { IsOwnText own.now }
+        ensures ok { OnOk result (self.new ≡ self.old
+            ++ (with_own (written (lines.Event event)) own.now ++ 10 ∷ [])) }
+        ensures err { OnErr result (self.new ≡ self.old) }
+        ensures told { OnOk result (told self.new ≡ with_event (told self.old) event) }
+    {
         self.next.clear();
-        push_noted(alloc, &Line::Event(event), own, &mut self.next)?;
-        self.text.extend_from_slice(self.next.as_slice())?;
+        push_event(&event, &mut self.next)?;
+        push_with_own(self.next.as_slice(), own, &mut self.text)?;
         Ok(())
     }
 

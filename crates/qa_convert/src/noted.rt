@@ -1,10 +1,10 @@
 //! A line, written with keys of the converter's own.
-ghost use Rattle.std.specs.Prelude.{◌≡◌, ◌≤◌, ◌<◌, ◌++◌, ◌∷◌, [], OnOk, IfOk, IfErr, length};
-ghost use Rattle.std.specs.Prelude.{string_bytes, true};
+ghost use Rattle.std.specs.Prelude.{◌≡◌, ◌≤◌, ◌<◌, ◌++◌, ◌∷◌, [], OnErr, OnOk, IfOk, IfErr};
+ghost use Rattle.std.specs.Prelude.{length, string_bytes, true};
 ghost use Rattle.serde_json.specs.Data.{object};
 ghost use Rattle.serde_json.specs.View.{members_view};
 ghost use Rattle.serde_json.specs.Written.{compact_text};
-ghost use Rattle.qa_convert.specs.OwnKeys.{AreOwn, joined, noted};
+ghost use Rattle.qa_convert.specs.OwnKeys.{AreOwn, joined, noted, own_text, with_own};
 ghost use Rattle.qa_convert.specs.declared.noted.NotedFault.TheVariants.{TooLong};
 ghost use Rattle.qa_format.specs.format.Lines.{line_limit};
 ghost use Rattle.qa_format.specs.format.Proper.{IsProperLine};
@@ -67,8 +67,8 @@ pub fn push_noted(
         × (line_limit < length (noted line.now (members_view own.entries)))) }
 {
     let text = text_of_line(alloc, line)?;
-    push_with(alloc, line, text.as_slice(), own, out)?;
-    Ok(())
+    let own_text = own_text_of(alloc, own)?;
+    push_with_own(text.as_slice(), own_text.as_bytes(), out)
 }
 
 /// The text of a line.
@@ -105,28 +105,15 @@ fn push_by_value(alloc: Global, line: &Line, out: &mut Vec<u8>) -> Result<(), Al
     Ok(())
 }
 
-/// Appends the text of a line, with own keys behind its keys, and LF.
-fn push_with(
-    alloc: Global,
-    line: &Line,
-    text: &[u8],
-    own: OwnKeys,
-    out: &mut Vec<u8>,
-) -> Result<(), NotedFault>
-    requires text { text.now ≡ written line.now }
-    requires own { AreOwn (members_view own.entries) }
-    ensures ok { OnOk result (out.new.items
-        ≡ out.old.items ++ (noted line.now (members_view own.entries) ++ 10 ∷ [])) }
-    ensures short { OnOk result
-        (length (noted line.now (members_view own.entries)) ≤ line_limit) }
-    ensures too_long { IfErr result (λ fault. fault ≡ TooLong → (out.new.items ≡ out.old.items)
-        × (line_limit < length (noted line.now (members_view own.entries)))) }
+/// The text of own keys. It is empty where there is none.
+pub(crate) fn own_text_of(alloc: Global, own: OwnKeys) -> Result<String, AllocError>
+    requires { AreOwn (members_view own.entries) }
+    ensures { IfOk result (λ text. string_bytes text ≡ own_text (members_view own.entries)) }
 {
-    if own.is_empty() || text.is_empty() {
-        return push_line(text, out);
+    if own.is_empty() {
+        return Ok(String::new(alloc));
     }
-    let own_text = text_of(alloc, own)?;
-    push_joined(text, own_text.as_bytes(), out)
+    text_of(alloc, own)
 }
 
 /// The object of own keys as a text of JSON, without white space.
@@ -138,16 +125,37 @@ fn text_of(alloc: Global, own: OwnKeys) -> Result<String, AllocError>
     Value::from(own).to_string(alloc)
 }
 
+/// Appends the text of a line with that of own keys, and LF.
+///
+/// `TooLong` comes if that is more than 65,536 bytes, and `OutOfMemory` if it is out of memory;
+/// each leaves what was there.
+pub(crate) fn push_with_own(text: &[u8], own: &[u8], out: &mut Vec<u8>) -> Result<(), NotedFault>
+    ensures ok { OnOk result (out.new.items
+        ≡ out.old.items ++ (with_own text.now own.now ++ 10 ∷ [])) }
+    ensures err { OnErr result (out.new.items ≡ out.old.items) }
+    ensures short { OnOk result (length (with_own text.now own.now) ≤ line_limit) }
+    ensures too_long { IfErr result (λ fault. fault ≡ TooLong →
+        line_limit < length (with_own text.now own.now)) }
+{
+    if text.is_empty() || own.is_empty() {
+        push_line(text, out)
+    } else {
+        push_joined(text, own, out)
+    }
+}
+
 /// Appends a text and LF.
 fn push_line(text: &[u8], out: &mut Vec<u8>) -> Result<(), NotedFault>
     ensures ok { OnOk result (out.new.items ≡ out.old.items ++ (text.now ++ 10 ∷ [])) }
+    ensures err { OnErr result (out.new.items ≡ out.old.items) }
     ensures short { OnOk result (length text.now ≤ line_limit) }
-    ensures too_long { IfErr result (λ fault. fault ≡ TooLong → (out.new.items ≡ out.old.items)
-        × (line_limit < length text.now)) }
+    ensures too_long { IfErr result (λ fault. fault ≡ TooLong → line_limit < length text.now) }
 {
     if LONGEST_LINE < text.len() {
         return Err(NotedFault::TooLong);
     }
+    // No later step fails once there is room for all.
+    out.reserve(text.len() + 1)?;
     out.extend_from_slice(text)?;
     out.extend_from_slice(b"\n")?;
     Ok(())
@@ -159,9 +167,10 @@ fn push_joined(text: &[u8], own: &[u8], out: &mut Vec<u8>) -> Result<(), NotedFa
     requires own { 1 ≤ length own.now }
     ensures ok { OnOk result (out.new.items
         ≡ out.old.items ++ (joined text.now own.now ++ 10 ∷ [])) }
+    ensures err { OnErr result (out.new.items ≡ out.old.items) }
     ensures short { OnOk result (length (joined text.now own.now) ≤ line_limit) }
-    ensures too_long { IfErr result (λ fault. fault ≡ TooLong → (out.new.items ≡ out.old.items)
-        × (line_limit < length (joined text.now own.now))) }
+    ensures too_long { IfErr result (λ fault. fault ≡ TooLong →
+        line_limit < length (joined text.now own.now)) }
 {
     if LONGEST_LINE < text.len() || LONGEST_LINE < own.len() {
         return Err(NotedFault::TooLong);
@@ -169,6 +178,8 @@ fn push_joined(text: &[u8], own: &[u8], out: &mut Vec<u8>) -> Result<(), NotedFa
     if LONGEST_LINE < text.len() + own.len() - 1 {
         return Err(NotedFault::TooLong);
     }
+    // No later step fails once there is room for all.
+    out.reserve(text.len() + own.len())?;
     out.extend_from_slice(&text[..text.len() - 1])?;
     out.extend_from_slice(b",")?;
     out.extend_from_slice(&own[1..])?;

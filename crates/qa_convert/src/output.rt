@@ -2,16 +2,17 @@
 ghost use Rattle.qa_convert.specs.Telling.{told, with_event};
 ghost use Rattle.std.specs.Prelude.{◌≡◌, ◌++◌, ◌∷◌, [], OnErr, OnOk, IfOk, true};
 ghost use Rattle.qa_base.specs.values.Events.{fits};
-ghost use Rattle.qa_convert.specs.Outputs.{are_of_line, in_unit, own_members};
-ghost use Rattle.qa_convert.specs.Outputs.{with_guess};
+ghost use Rattle.qa_convert.specs.Outputs.{are_of_line, guessed, in_unit};
+ghost use Rattle.qa_convert.specs.Outputs.{own_members, with_guess};
 ghost use Rattle.qa_convert.specs.Guesses.{is_guess};
 ghost use Rattle.std.specs.List.{list_any};
 ghost use Rattle.qa_convert.specs.OwnKeys.{AreOwn, noted};
-ghost use Rattle.serde_json.specs.Data.{Members};
+ghost use Rattle.serde_json.specs.Data.{Members, no_members};
 ghost use Rattle.serde_json.specs.View.{members_view};
 ghost use Rattle.qa_format.specs.declared.line.Line.TheVariants as lines;
 
 use crate::guess::{Guess, put_guesses};
+use crate::kept::KeptText;
 use crate::lines::{EventLines, HeaderLine};
 use crate::noted::NotedFault;
 use crate::own::{OwnKey, OwnKeys, put_if_ascii, put_ranges, put_text, put_texts};
@@ -31,6 +32,8 @@ pub(crate) struct Output {
     pub(crate) text: EventLines,
     /// What was guessed for the next line, in the order in which it was.
     guesses: Vec<Guess>,
+    /// The text of the own keys of the last line that said what was guessed, and nothing else.
+    kept: KeptText,
 }
 
 impl Output {
@@ -47,6 +50,7 @@ impl Output {
             has_places,
             text: EventLines::new(alloc),
             guesses: Vec::new(alloc),
+            kept: KeptText::new(alloc),
         }
     }
 
@@ -101,10 +105,46 @@ impl Output {
         ensures told { OnOk result (told self.new.text
             ≡ with_event (told self.old.text) event) }
     {
-        let own = self.own_keys(first, last)?;
-        self.text.push(self.alloc, event, own)?;
+        self.push(event, first, last)?;
         self.guesses.clear();
         Ok(())
+    }
+
+    /// Appends the line of an event that is from records that begin there.
+    fn push(&mut self, event: Event, first: Place, last: Place) -> Result<(), NotedFault>
+        requires { fits event ≡ true }
+        ensures ok { OnOk result (self.new.text ≡ self.old.text
+            ++ (noted (lines.Event event) (own_members self.old.has_places first last
+            self.old.guesses.items) ++ 10 ∷ [])) }
+        ensures unit { self.new.unit ≡ self.old.unit }
+        ensures places { self.new.has_places ≡ self.old.has_places }
+        ensures told { OnOk result (told self.new.text
+            ≡ with_event (told self.old.text) event) }
+    {
+        if self.has_places {
+            let own = self.own_keys(first, last)?;
+            return self.text.push(self.alloc, event, own);
+        }
+        self.push_guessed(event)
+    }
+
+    /// Appends the line of an event that says what was guessed, and not where it is from.
+    fn push_guessed(&mut self, event: Event) -> Result<(), NotedFault>
+        requires { fits event ≡ true }
+        ensures ok { OnOk result (self.new.text ≡ self.old.text
+            ++ (noted (lines.Event event) (guessed self.old.guesses.items no_members)
+            ++ 10 ∷ [])) }
+        ensures unit { self.new.unit ≡ self.old.unit }
+        ensures places { self.new.has_places ≡ self.old.has_places }
+        ensures told { OnOk result (told self.new.text
+            ≡ with_event (told self.old.text) event) }
+    {
+        // What is kept stays for the line after this one.
+        if self.guesses.is_empty() {
+            return self.text.push_text(event, b"");
+        }
+        self.kept.renew(self.alloc, &self.guesses)?;
+        self.text.push_text(event, self.kept.as_bytes())
     }
 
     /// The line of the header, with the dialect by which the log is read, with what was guessed for

@@ -8,7 +8,6 @@ ghost use Rattle.qa_convert.specs.Packets.{AreAcksOf, GivesPacket, IsAckOf, IsCo
 ghost use Rattle.qa_convert.specs.declared.packet.LoggedAck.{LoggedAck as Kept};
 ghost use Rattle.qa_qlog.specs.Frames as frames;
 ghost use Rattle.qa_qlog.specs.Frames.{listed};
-ghost use Rattle.qa_qlog.specs.Losses as losses;
 ghost use Rattle.qa_qlog.specs.Packets as said_packets;
 ghost use Rattle.qa_qlog.specs.Packets.{header_of};
 
@@ -100,29 +99,14 @@ pub struct LoggedPacket {
 }
 
 impl LoggedPacket {
-    /// The packet of which this object is the data; None if it is of no space. Durations have this
-    /// unit.
-    pub fn of<'t, 'a>(
-        alloc: Global,
-        object: Option<Element<'t, 'a>>,
-        unit: Unit,
-    ) -> Result<Option<LoggedPacket>, NoEvent>
-        ensures { (d : Option Json) → Finds object.entry d → IfOk result (GivesPacket unit d) }
-    {
-        let is_probe = is_probe(&object);
-        LoggedPacket::in_packet(alloc, &Packet::of(object), is_probe, unit)
-    }
-
-    /// The packet; None if it is of no space.
-    pub(crate) fn in_packet(
+    /// What a record says of its packet; None if that is of no space. Durations have this unit.
+    pub fn of(
         alloc: Global,
         packet: &Packet<'_, '_>,
-        is_probe: bool,
         unit: Unit,
     ) -> Result<Option<LoggedPacket>, NoEvent>
         ensures { (d : Option Json) → Finds packet.now.object d
-            → Finds packet.now.header (header_of d) → is_probe ≡ losses.is_probe d
-            → IfOk result (GivesPacket unit d) }
+            → Finds packet.now.header (header_of d) → IfOk result (GivesPacket unit d) }
     {
         let Some(space) = space_of(packet) else {
             return Ok(None);
@@ -138,14 +122,14 @@ impl LoggedPacket {
             is_size_guessed: false,
             keeps_room: false,
             content,
-            is_probe,
+            is_probe: is_probe(&packet.object),
             acks,
         }))
     }
 }
 
 /// The packet number space of a packet, if it has one.
-fn space_of(packet: &Packet<'_, '_>) -> Option<Space>
+pub(crate) fn space_of(packet: &Packet<'_, '_>) -> Option<Space>
     ensures { (h d : Option Json) → Finds packet.now.header h → Finds packet.now.object d
         → result ≡ packets.space_of h d }
 {

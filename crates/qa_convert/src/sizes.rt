@@ -3,9 +3,9 @@
 //! They are read off the headers and frames if each frame has its length. A STREAM frame that has
 //! none fills its packet, unless the next data of its stream begins earlier. Of the last one of a
 //! stream nothing says how long it is, so the least is taken.
-use crate::packet::NoEvent;
+use crate::packet::{NoEvent, space_of};
 use crate::size::PacketSize;
-use json::{Element, Items};
+use json::Element;
 use qa_base::Space;
 use qa_qlog::{
     FrameType, Key, NoValue, Packet, data_length, frame_length, frame_type, is_open, offset,
@@ -29,6 +29,18 @@ pub(crate) struct FoundSize {
     pub(crate) size: PacketSize,
     /// Whether it ends one byte before the packet is full, since a PING had to have room.
     pub(crate) keeps_room: bool,
+}
+
+/// What the header and the frames of a packet say of its size.
+#[derive(Drop)]
+struct Framed<'t, 'a> {
+    /// How many bytes it has, but for data without a length.
+    bytes: u64,
+    /// Whether there are STREAM frames.
+    has_streams: bool,
+    /// The first frame with data that have no length, and whether there are others.
+    open: Option<Element<'t, 'a>>,
+    has_more: bool,
 }
 
 /// What is known of a stream.
@@ -65,11 +77,13 @@ impl Sizes {
     /// Looks at the offsets of a packet that has no size, while the log is read for the first time,
     /// and finds its size.
     pub(crate) fn see(&mut self, packet: &Packet<'_, '_>) -> Result<Option<FoundSize>, NoEvent> {
-        let Some(size) = size_by_frames(packet)? else {
+        let Some(framed) = size_by_frames(packet)? else {
             return Ok(size_by_payload(packet)?);
         };
-        self.see_frames(packet, self.full.saturating_sub(size))?;
-        self.with_open_data(packet, size)
+        if framed.has_streams {
+            self.see_frames(packet, self.full.saturating_sub(framed.bytes))?;
+        }
+        Ok(Some(self.with_open_data(packet, &framed)?))
     }
 
     /// Looks at the offsets of the STREAM frames of a packet that has room for so much data.
@@ -112,42 +126,43 @@ impl Sizes {
     /// The size of a packet that has none, if anything says it.
     pub(crate) fn find(&self, packet: &Packet<'_, '_>) -> Result<Option<FoundSize>, NoEvent> {
         match size_by_frames(packet)? {
-            Some(size) => self.with_open_data(packet, size),
+            Some(framed) => Ok(Some(self.with_open_data(packet, &framed)?)),
             None => Ok(size_by_payload(packet)?),
         }
     }
 
-    /// The size of a packet of so many bytes without the data of STREAM frames that have no length.
+    /// The size of a packet, with the data of STREAM frames that have no length.
     fn with_open_data(
         &self,
         packet: &Packet<'_, '_>,
-        size: u64,
-    ) -> Result<Option<FoundSize>, NoEvent> {
-        let (data, has_open) = match packet.frames()? {
-            Some(frames) => self.open_data(frames, size)?,
-            None => (0, false),
+        framed: &Framed<'_, '_>,
+    ) -> Result<FoundSize, NoValue> {
+        let data = match &framed.open {
+            None => 0,
+            Some(frame) if !framed.has_more => self.data_of(frame, framed.bytes)?,
+            Some(_) => self.open_data(packet, framed.bytes)?,
         };
-        let bytes = size.saturating_add(data);
-        let keeps_room = has_open && bytes.saturating_add(ROOM) == self.full;
-        Ok(Some(FoundSize {
+        let bytes = framed.bytes.saturating_add(data);
+        let keeps_room = framed.open.is_some() && bytes.saturating_add(ROOM) == self.full;
+        Ok(FoundSize {
             size: ranged(bytes)?,
             keeps_room,
-        }))
+        })
     }
 
-    /// The data of STREAM frames without a length, in a packet of so many other bytes, and whether
-    /// there are any.
-    fn open_data(&self, frames: Items<'_, '_>, size: u64) -> Result<(u64, bool), NoValue> {
+    /// The data of the STREAM frames without a length, in a packet of so many other bytes.
+    fn open_data(&self, packet: &Packet<'_, '_>, bytes: u64) -> Result<u64, NoValue> {
+        let Some(frames) = packet.frames()? else {
+            return Ok(0);
+        };
         let mut frames = frames;
         let mut data = 0u64;
-        let mut has_open = false;
         while let Some(frame) = frames.next() {
             if is_open(&frame) {
-                data = data.saturating_add(self.data_of(&frame, size)?);
-                has_open = true;
+                data = data.saturating_add(self.data_of(&frame, bytes)?);
             }
         }
-        Ok((data, has_open))
+        Ok(data)
     }
 
     /// The data of a STREAM frame without a length, in a packet of so many other bytes.
@@ -188,34 +203,49 @@ impl Stream {
     }
 }
 
-/// The size by frames of which each has a length, without data that has none.
-fn size_by_frames(packet: &Packet<'_, '_>) -> Result<Option<u64>, NoValue> {
+/// The size of a packet by its header and by frames of which each has a length.
+fn size_by_frames<'t, 'a>(packet: &Packet<'t, 'a>) -> Result<Option<Framed<'t, 'a>>, NoValue> {
     let Some(frames) = packet.frames()? else {
         return Ok(None);
     };
     let mut frames = frames;
     let mut total = 0u64;
     let mut is_empty = true;
+    let mut has_streams = false;
+    let mut open = None;
+    let mut has_more = false;
     while let Some(frame) = frames.next() {
-        let Some(length) = whole_length(&frame)? else {
+        let kind = frame_type(&frame);
+        let Some(length) = whole_length(&frame, kind)? else {
             return Ok(None);
         };
         total = total.saturating_add(length);
         is_empty = false;
+        has_streams = has_streams || kind == FrameType::Stream;
+        if is_open(&frame) {
+            has_more = open.is_some();
+            if !has_more {
+                open = Some(frame);
+            }
+        }
     }
-    Ok(if is_empty {
-        None
-    } else {
-        Some(size_with_header(packet, total))
-    })
+    if is_empty {
+        return Ok(None);
+    }
+    Ok(Some(Framed {
+        bytes: size_with_header(packet, total),
+        has_streams,
+        open,
+        has_more,
+    }))
 }
 
-/// How many bytes a frame has, but for data without a length.
-fn whole_length(frame: &Element<'_, '_>) -> Result<Option<u64>, NoValue> {
+/// How many bytes a frame of this type has, but for data without a length.
+fn whole_length(frame: &Element<'_, '_>, kind: FrameType) -> Result<Option<u64>, NoValue> {
     let Some(length) = frame_length(frame)? else {
         return Ok(None);
     };
-    match frame_type(frame) {
+    match kind {
         FrameType::Crypto | FrameType::Stream => match data_length(frame)? {
             Some(data) => Ok(Some(length.saturating_add(data))),
             None => Ok(None),
@@ -249,37 +279,31 @@ fn ranged(bytes: u64) -> Result<PacketSize, NoValue> {
 
 /// The size of a packet with so many bytes of frames (RFC 9000, section 17).
 fn size_with_header(packet: &Packet<'_, '_>, payload: u64) -> u64 {
+    let space = space_of(packet);
     let destination = length_of_hex(packet.destination());
-    let source = length_of_hex(packet.source());
-    let has_source = !packet.source().unwrap_or("").is_empty();
+    let source = packet.source().unwrap_or("");
     let sealed = payload.saturating_add(NUMBER + TAG);
-    let is_app = match packet.packet_type() {
-        Some(kind) => kind.space() == Some(Space::App),
-        None => false,
-    };
-    if is_app && !has_source {
+    if space == Some(Space::App) && source.is_empty() {
         return sealed.saturating_add(1).saturating_add(destination);
     }
     let ids = 1u64
         .saturating_add(destination)
         .saturating_add(1)
-        .saturating_add(source);
+        .saturating_add(length_of_hex(Some(source)));
+    let token = if space == Some(Space::Initial) {
+        length_of_token(packet)
+    } else {
+        0
+    };
     sealed
         .saturating_add(1 + VERSION)
         .saturating_add(ids)
         .saturating_add(length_of_varint(sealed))
-        .saturating_add(length_of_token(packet))
+        .saturating_add(token)
 }
 
 /// How many bytes the token of an Initial packet takes, with its length.
 fn length_of_token(packet: &Packet<'_, '_>) -> u64 {
-    let is_initial = match packet.packet_type() {
-        Some(kind) => kind.space() == Some(Space::Initial),
-        None => false,
-    };
-    if !is_initial {
-        return 0;
-    }
     let token = length_of_hex(packet.token());
     token.saturating_add(length_of_varint(token))
 }

@@ -8,7 +8,6 @@ use crate::place::Place;
 use crate::size::PacketSize;
 use crate::sizes::Sizes;
 use crate::validation::{LEAST_DATAGRAM, Validation};
-use json::Element;
 use qa_base::{PerSpace, Role, Space};
 use qa_qlog::{Key, NoValue, Packet};
 use std::alloc::{AllocError, Global};
@@ -186,21 +185,20 @@ impl Survey {
         }
     }
 
-    /// Looks at the next event, and at the object of its data.
+    /// Looks at the next event, and at what its record says of a packet.
     pub(crate) fn see(
         &mut self,
         alloc: Global,
         event: &LoggedEvent,
-        object: Option<Element<'_, '_>>,
+        said: &Packet<'_, '_>,
     ) -> Result<(), NoEvent> {
         self.see_time(event.at.time);
         let is_looked_at = self.looking.goes_on();
         match &event.said {
             Said::Sent(packet) => {
                 self.is_behind_timer = false;
-                let said = Packet::of(object);
-                self.see_destination(alloc, event.at, packet, &said)?;
-                let size = self.see_sent(event.at, packet, &said)?;
+                self.see_destination(alloc, event.at, packet, said)?;
+                let size = self.see_sent(event.at, packet, said)?;
                 if is_looked_at {
                     self.looking.see_sent(event.at, packet, size)?;
                 }
@@ -208,16 +206,16 @@ impl Survey {
             }
             Said::Received(packet) => {
                 self.is_behind_timer = false;
-                self.see_received(event.at, packet, &Packet::of(object));
+                self.see_received(event.at, packet, said);
                 if is_looked_at {
                     self.looking.see_received(event.at, packet);
                 }
                 Ok(())
             }
-            said => {
-                self.see_other(event.at, said);
+            other => {
+                self.see_other(event.at, other);
                 if is_looked_at {
-                    self.look_at_other(event.at, said)?;
+                    self.look_at_other(event.at, other)?;
                 }
                 Ok(())
             }
@@ -463,8 +461,11 @@ fn not_zero(value: Option<u64>) -> Option<u64> {
 }
 
 impl WithFrames {
-    /// Looks at a packet.
+    /// Looks at a packet. Once there is one with frames, the others do not count.
     fn see(&mut self, packet: &Packet<'_, '_>) {
+        if self.some {
+            return;
+        }
         if packet.has_frames() {
             self.some = true;
         } else {

@@ -4,9 +4,10 @@ use crate::connections::Connections;
 use crate::event::{At, LoggedEvent, Said, losses_of};
 use crate::packet::NoEvent;
 use crate::place::Place;
+use crate::room::Room;
 use crate::survey::Survey;
-use json::{Element, Error as JsonError, Scratch, Tape};
-use qa_qlog::{EventName, Head, NoTime, path_id};
+use json::{Element, Error as JsonError, Tape};
+use qa_qlog::{EventName, Head, NoTime, Packet, path_id};
 use std::alloc::{AllocError, Global};
 use thiserror::Error;
 
@@ -57,11 +58,12 @@ pub(crate) struct Cursor {
     index: u64,
 }
 
-/// The name of an event that is converted, and where and when its record is.
-#[derive(Clone, Copy)]
-pub(crate) struct Named {
+/// The name of an event that is converted, where and when its record is, and its data.
+#[derive(Drop)]
+pub(crate) struct Named<'t, 'a> {
     pub(crate) name: EventName,
     pub(crate) at: At,
+    pub(crate) object: Option<Element<'t, 'a>>,
 }
 
 impl Cursor {
@@ -74,13 +76,13 @@ impl Cursor {
         }
     }
 
-    /// The name, the place and the time of the next record, if its event is one that is converted.
-    pub(crate) fn next(
+    /// What the next record has, if its event is one that is converted.
+    pub(crate) fn next<'t, 'a>(
         &mut self,
         head: &Head,
-        record: &Element<'_, '_>,
+        record: &Element<'t, 'a>,
         place: Place,
-    ) -> Result<Option<Named>, NoRecord> {
+    ) -> Result<Option<Named<'t, 'a>>, NoRecord> {
         let index = self.index;
         self.index = self.index.saturating_add(1);
         let Some(event) = head.event(record)? else {
@@ -98,7 +100,7 @@ impl Cursor {
             return Ok(None);
         }
         let at = At { place, index, time };
-        Ok(Some(Named { name, at }))
+        Ok(Some(Named { name, at, object }))
     }
 
     /// Passes over the next record, which is not JSON; its time is that of the one before.
@@ -137,14 +139,14 @@ impl Surveying {
     /// Looks at the next text, which begins there. After `OutOfMemory` it is of no use.
     pub(crate) fn push(
         &mut self,
-        scratch: &mut Scratch,
+        room: &mut Room,
         text: &[u8],
         place: Place,
     ) -> Result<(), NoRecord> {
         let Ok(text) = str::from_utf8(text) else {
             return Err(NoRecord::NotJson);
         };
-        match Tape::parse(text, scratch, Vec::new(self.alloc)) {
+        match Tape::parse(text, &mut room.scratch, Vec::new(&room.nodes)) {
             Ok(tape) => self.see(&tape.root(), place),
             Err(JsonError::Invalid) => Err(NoRecord::NotJson),
             Err(_) => Err(NoRecord::OutOfMemory),
@@ -161,21 +163,22 @@ impl Surveying {
         let Some(named) = self.cursor.next(&self.head, record, place)? else {
             return Ok(());
         };
-        if named.name == EventName::PacketsLost {
-            return self.see_losses(record, named.at);
+        let Named { name, at, object } = named;
+        if name == EventName::PacketsLost {
+            return self.see_losses(&object, at);
         }
-        let unit = self.head.unit;
-        let said = Said::of(self.alloc, named.name, self.head.data(record), unit)?;
-        let event = LoggedEvent { at: named.at, said };
-        self.survey.see(self.alloc, &event, self.head.data(record))?;
+        let packet = Packet::of(object);
+        let said = Said::of(self.alloc, name, &packet, self.head.unit)?;
+        let event = LoggedEvent { at, said };
+        self.survey.see(self.alloc, &event, &packet)?;
         Ok(())
     }
 
-    /// Looks at the losses that a record names.
-    fn see_losses(&mut self, record: &Element<'_, '_>, at: At) -> Result<(), NoRecord> {
-        for said in losses_of(self.alloc, &self.head.data(record))? {
+    /// Looks at the losses that a record names, whose data is this object.
+    fn see_losses(&mut self, object: &Option<Element<'_, '_>>, at: At) -> Result<(), NoRecord> {
+        for said in losses_of(self.alloc, object)? {
             let event = LoggedEvent { at, said };
-            self.survey.see(self.alloc, &event, None)?;
+            self.survey.see(self.alloc, &event, &Packet::of(None))?;
         }
         Ok(())
     }

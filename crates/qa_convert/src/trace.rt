@@ -11,10 +11,10 @@ use crate::looking::Order;
 use crate::noted::NotedFault;
 use crate::notes::Notes;
 use crate::place::Place;
+use crate::room::Room;
 use crate::survey::{NoSurvey, Survey};
 use crate::surveying::{NoRecord, Surveying};
 use crate::writing::{NoLine, Writing};
-use json::Scratch;
 use qa_base::{Controller, Role};
 use qa_qlog::Head;
 use std::alloc::{AllocError, Global};
@@ -88,9 +88,7 @@ pub struct Asked {
 pub struct FirstReading {
     alloc: Global,
     asked: Asked,
-    /// Memory of 16 KiB that each text is read with. To make it anew would take longer than the
-    /// reading of a record.
-    scratch: Scratch,
+    room: Room,
     surveying: Surveying,
 }
 
@@ -102,7 +100,7 @@ impl FirstReading {
         FirstReading {
             alloc,
             asked,
-            scratch: Scratch::new(alloc),
+            room: Room::new(alloc),
             surveying,
         }
     }
@@ -110,7 +108,9 @@ impl FirstReading {
     /// Looks at the next text, which begins there. `NotJson` leaves all as it was; after any other
     /// error it is of no use.
     pub fn push(&mut self, text: &[u8], place: Place) -> Result<(), NoRecord> {
-        self.surveying.push(&mut self.scratch, text, place)
+        let result = self.surveying.push(&mut self.room, text, place);
+        self.room.clear();
+        result
     }
 
     /// Passes over a text that is not JSON, and that says nothing of packets.
@@ -128,7 +128,7 @@ impl FirstReading {
         let FirstReading {
             alloc,
             asked,
-            scratch,
+            room,
             surveying,
         } = self;
         let survey = surveying.survey;
@@ -157,7 +157,7 @@ impl FirstReading {
         let converting = Converting::new(alloc, head, connection, terms, survey, writing);
         Ok(SecondReading {
             line,
-            scratch,
+            room,
             converting,
         })
     }
@@ -195,7 +195,7 @@ fn doubt(
 #[derive(Drop)]
 pub struct SecondReading {
     line: HeaderLine,
-    scratch: Scratch,
+    room: Room,
     converting: Converting,
 }
 
@@ -211,7 +211,9 @@ impl SecondReading {
     /// Takes the next text, which begins there. After an error it is of no use but for the lines
     /// that were written.
     pub fn push(&mut self, text: &[u8], place: Place) -> Result<(), NoMore> {
-        self.converting.push(&mut self.scratch, text, place)
+        let result = self.converting.push(&mut self.room, text, place);
+        self.room.clear();
+        result
     }
 
     /// Passes over a text that is not JSON, and that says nothing of packets: a report perhaps.

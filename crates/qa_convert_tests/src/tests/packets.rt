@@ -2,14 +2,14 @@
 use json::{Scratch, Tape};
 use qa_base::Space;
 use qa_convert::{LoggedAck, LoggedPacket, NoEvent, PacketSize};
-use qa_qlog::{Key, NoValue, Unit};
+use qa_qlog::{Key, NoValue, Packet, Unit};
 use std::alloc::Global;
 
 /// The packet of which this is the data, in a log of milliseconds.
 fn packet_of(alloc: Global, text: &str) -> Result<Option<LoggedPacket>, NoEvent> {
     let mut scratch = Scratch::new(alloc);
     match Tape::parse(text, &mut scratch, Vec::new(alloc)) {
-        Ok(tape) => LoggedPacket::of(alloc, Some(tape.root()), Unit::Milliseconds),
+        Ok(tape) => LoggedPacket::of(alloc, &Packet::of(Some(tape.root())), Unit::Milliseconds),
         Err(_) => Ok(None),
     }
 }

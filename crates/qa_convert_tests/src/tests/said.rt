@@ -2,14 +2,19 @@
 use json::{Scratch, Tape};
 use qa_base::{Space, TimerKind};
 use qa_convert::Said;
-use qa_qlog::{EventName, Unit};
+use qa_qlog::{EventName, Packet, Unit};
 use std::alloc::Global;
 
 /// What a record of this name says, whose data is this text, in a log of milliseconds.
 fn said_of(alloc: Global, name: EventName, text: &str) -> Option<Said> {
     let mut scratch = Scratch::new(alloc);
     match Tape::parse(text, &mut scratch, Vec::new(alloc)) {
-        Ok(tape) => match Said::of(alloc, name, Some(tape.root()), Unit::Milliseconds) {
+        Ok(tape) => match Said::of(
+            alloc,
+            name,
+            &Packet::of(Some(tape.root())),
+            Unit::Milliseconds,
+        ) {
             Ok(said) => Some(said),
             Err(_) => None,
         },
