@@ -1,6 +1,7 @@
 //! The lines of the trace of a log, as they are written and as they are audited.
 
-ghost use Rattle.std.specs.Prelude.{◌≡◌, ◌⊎◌, false};
+ghost use Rattle.std.specs.Prelude.{◌≡◌, ◌⊎◌, false, true, not, IfOk};
+ghost use Rattle.std.specs.Result.{is_ok};
 ghost use Rattle.qa_convert.specs.OwnKeys.{AreEventLines, IsHeaderLine};
 ghost use Rattle.qa_log_command.specs.Failing.{fails_to_write};
 ghost use Rattle.qa_logs.specs.Tracing.{shown};
@@ -15,7 +16,7 @@ use std::marker::Model;
 use std::rt::Files;
 
 /// The lines of the trace of a log, some at a time. The log is read for the third time as they are
-/// asked for. Contracts see what the trace has to give.
+/// asked for. Contracts see what the trace has to give, and whether nothing follows that.
 #[derive(Drop)]
 pub struct Lines<'a, F> {
     trace: Trace,
@@ -27,18 +28,19 @@ pub struct Lines<'a, F> {
 }
 
 impl<'a, F> Model for Lines<'a, F> {
+    ghost use Rattle.std.specs.Prelude.{Bool};
     ghost use Rattle.qa_logs.specs.Tracing.{Told};
 
-    ghost Value = { Told };
+    ghost Value = { Told × Bool };
 
-    ghost view = { λ l. l.trace };
+    ghost view = { λ l. (l.trace, l.is_ended) };
 }
 
 impl<'a, F: Read + Drop> Lines<'a, F> {
     /// The header, with its LF; or once `advance` was called lines of events, each ended by LF, and
     /// perhaps none.
     pub fn text(&self) -> &[u8]
-        ensures text { result.now ≡ shown self.now }
+        ensures text { result.now ≡ shown self.now.0 }
         ensures lines { IsHeaderLine result.now ⊎ AreEventLines result.now }
     {
         self.trace.text()
@@ -49,7 +51,10 @@ impl<'a, F: Read + Drop> Lines<'a, F> {
     ///
     /// An error leaves the lines that were before the fault, and nothing follows them.
     pub fn advance(&mut self) -> Result<bool, Failure>
-        ensures { fails_to_write result ≡ false }
+        ensures unwritten { fails_to_write result ≡ false }
+        ensures more { IfOk result (λ has_more. has_more ≡ not self.old.1) }
+        ensures last { is_ok result ≡ false → self.new.1 ≡ true }
+        ensures stays { self.old.1 ≡ true → self.new.1 ≡ true }
     {
         self.passed = self.count();
         self.trace.clear();

@@ -1,7 +1,7 @@
 //! A reader of the trace of a log.
-ghost use Rattle.std.specs.Prelude.{◌≡◌, ◌≢◌, ◌+◌, ◌<◌, ◌≤◌, ◌^◌, [], IfOk, length, true};
+ghost use Rattle.std.specs.Prelude.{◌≡◌, ◌≢◌, ◌+◌, ◌<◌, ◌≤◌, ◌^◌, [], IfOk, false, length, true};
 ghost use Rattle.std.specs.Result.{is_ok};
-ghost use Rattle.qa_log_command.specs.Handing.{Gives, left};
+ghost use Rattle.qa_log_command.specs.Handing.{EndsThen, Gives, left};
 
 use crate::failure::Stopped;
 use crate::lines::Lines;
@@ -44,11 +44,13 @@ impl<'a, F: Read + Drop> TraceReader<'a, F> {
     /// The next bytes of the trace, as many as there are and as the buffer takes; none at its end.
     ///
     /// While some of the lines at this point are left, it does not fail: these are the next of
-    /// them, and nothing else changes. A read fails as the reader itself says.
+    /// them, and nothing else changes. Only behind the last lines, or into no buffer, it gives
+    /// none. A read fails as the reader itself says.
     pub fn next(&mut self, buffer: &mut [u8]) -> io::Result<usize>
         ensures next { left self.old ≢ [] → IfOk result (Gives self.old self.new
             buffer.old buffer.new) }
         ensures gives { left self.old ≢ [] → is_ok result ≡ true }
+        ensures ends { IfOk result (λ count. EndsThen self.new buffer.old count) }
         ensures bound { IfOk result (λ count. count ≤ length buffer.old) }
     {
         self.fill()?;
@@ -72,18 +74,21 @@ impl<'a, F: Read + Drop> TraceReader<'a, F> {
     fn fill(&mut self) -> io::Result<()>
         ensures stays { left self.old ≢ [] → self.new ≡ self.old }
         ensures is_done { left self.old ≢ [] → is_ok result ≡ true }
+        ensures ends { IfOk result (λ _. left self.new ≡ [] → self.new.lines.1 ≡ true) }
     {
         'lines: for _i in 0..u64::MAX {
             if !self.rest().is_empty() || !self.advance()? {
-                break;
+                return Ok(());
             }
         }
-        Ok(())
+        // No log has so many parts.
+        Err(io::Error::from(io::ErrorKind::InvalidData))
     }
 
     /// Goes on by one step, to the first byte of its lines. Returns false at the end.
     fn advance(&mut self) -> io::Result<bool>
-        ensures { IfOk result (λ has_more. self.new.passed ≡ 0) }
+        ensures start { IfOk result (λ has_more. self.new.passed ≡ 0) }
+        ensures ends { IfOk result (λ has_more. has_more ≡ false → self.new.lines.1 ≡ true) }
     {
         if self.stopped.is_some() {
             return Err(io::Error::from(io::ErrorKind::InvalidData));

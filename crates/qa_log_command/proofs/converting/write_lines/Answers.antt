@@ -14,7 +14,7 @@ pub returns-in_err-advanced : goal.returns-in_err-advanced
 returns-in_err-advanced g c =
     let held = g.O.Sink.held in
     let failures = g.O.Sink.write_failures in
-    rw (fails_as false c.from_residual-in_err-advanced.result c.in_err-advanced.field-0.0 c.from_residual-in_err-advanced.ensures.1 c.in_err-advanced.ensures)
+    rw (fails_as false c.from_residual-in_err-advanced.result c.in_err-advanced.field-0.0 c.from_residual-in_err-advanced.ensures.1 c.in_err-advanced.ensures.unwritten)
     (more_lines false (held c.args.output.now, failures c.args.output.now) (held c.lines.output, failures c.lines.output)
     (held c.give-in-lines.new.output, failures c.give-in-lines.new.output) c.lines.invariant c.in_ok-give-2.ensures.written)
 
