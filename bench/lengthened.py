@@ -60,10 +60,14 @@ def number_of(value: Any) -> int:
     return int(value)
 
 
-def highest_of(records: list[dict[str, Any]]) -> int:
-    """The highest packet number of some records."""
-    found = (header_of(record).get("packet_number") for record in records)
-    return max((number_of(it) for it in found if it is not None), default=0)
+def span_of(records: list[dict[str, Any]]) -> int:
+    """How many packet numbers the records of one name reach over, at most."""
+    numbers: dict[str, list[int]] = {}
+    for record in records:
+        found = header_of(record).get("packet_number")
+        if found is not None:
+            numbers.setdefault(str(record.get("name")), []).append(number_of(found))
+    return max((max(it) - min(it) + 1 for it in numbers.values()), default=1)
 
 
 class Repeating:
@@ -71,16 +75,17 @@ class Repeating:
 
     def __init__(self, records: list[dict[str, Any]], is_delta: bool) -> None:
         self._texts = [json.dumps(it, separators=(",", ":")) for it in records]
-        self._numbers = highest_of(records) + 1
-        times = [float(it["time"]) for it in records if "time" in it]
-        self._duration = 0.0 if is_delta or not times else max(times) - min(times) + 1
+        self._numbers = span_of(records)
+        times = [it["time"] for it in records if "time" in it]
+        self._duration = 0 if is_delta or not times else max(times) - min(times) + 1
 
     def time(self, number: int) -> Iterator[dict[str, Any]]:
         """The records of one time, by its number from 1."""
         for text in self._texts:
             record = json.loads(text)
             if "time" in record:
-                record["time"] = round(float(record["time"]) + number * self._duration, 6)
+                # Whole milliseconds stay whole, as a stack writes them.
+                record["time"] = round(record["time"] + number * self._duration, 6)
             self._shift(record, number * self._numbers)
             yield record
 
