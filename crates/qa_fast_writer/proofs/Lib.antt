@@ -1,4 +1,3 @@
 pub mod Added
 pub mod Closed
 pub mod Listed
-pub mod Plain

@@ -1,5 +1,5 @@
 -- The texts of members, each with a comma before it, and of ranges.
-use Rattle.std.specs.Prelude.{◌≡◌, ◌++◌, ℕ, List, [], ◌∷◌, decimal, flat_map}
+use Rattle.std.specs.Prelude.{◌++◌, ℕ, List, [], ◌∷◌, decimal, flat_map}
 use Rattle.json.specs.Print.{quoted}
 use Rattle.serde_json.specs.Data.{Data}
 use Rattle.serde_json.specs.Written.{compact_text}
@@ -8,10 +8,6 @@ use Rattle.qa_base.specs.declared.key.Key.TheVariants as key
 use Rattle.qa_base.specs.declared.line_kind.LineKind.{LineKind}
 use Rattle.qa_base.specs.values.Names.{key_name, line_kind_name}
 use Rattle.qa_format.specs.format.Written.{Pairs, integer, string}
-
--- the text stands in quotes as it is
-abbrev pub IsPlain : List ℕ → Type 0
-IsPlain text = quoted text ≡ 34 ∷ (text ++ 34 ∷ [])
 
 -- a comma, a key and its colon
 abbrev pub before_value : Key → List ℕ

@@ -4,5 +4,6 @@
 
 mod events;
 mod members;
+mod texts;
 
 pub use events::push_event;

@@ -3,14 +3,17 @@ ghost use Rattle.std.specs.Prelude.{◌≡◌, ◌≤◌, ◌++◌, OnOk, decima
 ghost use Rattle.std.specs.List.{AllByRecursion};
 ghost use Rattle.qa_base.specs.declared.key.Key.TheVariants as keys;
 ghost use Rattle.qa_base.specs.values.Limits.{max_packet_number, max_time};
-ghost use Rattle.qa_base.specs.values.Names.{key_name, kind_name, line_kind_name};
+ghost use Rattle.qa_base.specs.values.Names.{kind_name, line_kind_name};
 ghost use Rattle.qa_base.specs.values.Names.{permission_name, space_name};
-ghost use Rattle.qa_fast_writer.specs.Members.{IsPlain, all_led, before_value, led, led_pairs, pair_text};
+ghost use Rattle.qa_fast_writer.specs.Members.{all_led, before_value, led, led_pairs, pair_text};
 ghost use Rattle.qa_fast_writer.specs.Members.{pairs_text};
 ghost use Rattle.qa_format.specs.format.Proper.{IsRange, IsWord};
 ghost use Rattle.qa_format.specs.format.Written.{boolean, integer, integer_pairs, reported, string};
 ghost use Rattle.serde_json.specs.Data as json;
 
+use crate::texts::{
+    before, line_kind_in_quotes, permission_in_quotes, space_in_quotes, timer_kind_in_quotes,
+};
 use itoa::Buffer;
 use qa_base::{
     Field, Key, LineKind, PacketNumber, Permission, Space, Span, Spans, Ticks, TimerKind,
@@ -21,18 +24,8 @@ use std::alloc::AllocError;
 fn put_key(out: &mut Vec<u8>, key: Key) -> Result<(), AllocError>
     ensures { OnOk result (out.new.items ≡ out.old.items ++ before_value key) }
 {
-    out.extend_from_slice(b",\"")?;
-    out.extend_from_slice(name_of(key).as_bytes())?;
-    out.extend_from_slice(b"\":")?;
+    out.extend_from_slice(before(key))?;
     Ok(())
-}
-
-/// The text of a key, of which JSON escapes nothing.
-fn name_of(key: Key) -> &'static str
-    ensures name { result.now ≡ key_name key }
-    ensures plain { IsPlain (key_name key) }
-{
-    key.name()
 }
 
 /// Appends the digits of a number.
@@ -82,52 +75,45 @@ pub(crate) fn put_flag(out: &mut Vec<u8>, key: Key, value: bool) -> Result<(), A
     Ok(())
 }
 
-/// Appends a text at a key, of which JSON escapes nothing.
-fn put_text(out: &mut Vec<u8>, key: Key, text: &str) -> Result<(), AllocError>
-    requires { IsPlain text.now }
-    ensures { OnOk result (out.new.items ≡ out.old.items ++ led (key, string text.now)) }
+/// Appends a name at a key, which is given in quotes.
+fn put_name(out: &mut Vec<u8>, key: Key, name: &[u8]) -> Result<(), AllocError>
+    ensures { OnOk result (out.new.items ≡ out.old.items ++ before_value key ++ name.now) }
 {
     put_key(out, key)?;
-    out.extend_from_slice(b"\"")?;
-    out.extend_from_slice(text.as_bytes())?;
-    out.extend_from_slice(b"\"")?;
+    out.extend_from_slice(name)?;
     Ok(())
 }
 
 /// Appends the kind of a line.
-#[tactic(auto, using(crate::proofs::Plain::line_kind_is_plain))]
 pub(crate) fn put_kind(out: &mut Vec<u8>, kind: LineKind) -> Result<(), AllocError>
     ensures { OnOk result (out.new.items
         ≡ out.old.items ++ led (keys.Event, string (line_kind_name kind))) }
 {
-    put_text(out, Key::Event, kind.name())
+    put_name(out, Key::Event, line_kind_in_quotes(kind))
 }
 
 /// Appends a space.
-#[tactic(auto, using(qa_format::proofs::format::PlainTexts::space_is_plain))]
 pub(crate) fn put_space(out: &mut Vec<u8>, space: Space) -> Result<(), AllocError>
     ensures { OnOk result (out.new.items
         ≡ out.old.items ++ led (keys.Space, string (space_name space))) }
 {
-    put_text(out, Key::Space, space.name())
+    put_name(out, Key::Space, space_in_quotes(space))
 }
 
 /// Appends by what leave a packet was sent.
-#[tactic(auto, using(qa_format::proofs::format::PlainTexts::permission_is_plain))]
 pub(crate) fn put_permission(out: &mut Vec<u8>, permission: Permission) -> Result<(), AllocError>
     ensures { OnOk result (out.new.items
         ≡ out.old.items ++ led (keys.Leave, string (permission_name permission))) }
 {
-    put_text(out, Key::Leave, permission.name())
+    put_name(out, Key::Leave, permission_in_quotes(permission))
 }
 
 /// Appends the kind of a timer.
-#[tactic(auto, using(qa_format::proofs::format::PlainTexts::kind_is_plain))]
 pub(crate) fn put_timer_kind(out: &mut Vec<u8>, kind: TimerKind) -> Result<(), AllocError>
     ensures { OnOk result (out.new.items
         ≡ out.old.items ++ led (keys.Kind, string (kind_name kind))) }
 {
-    put_text(out, Key::Kind, kind.name())
+    put_name(out, Key::Kind, timer_kind_in_quotes(kind))
 }
 
 /// Appends a value that is reported, if it is.
