@@ -7,12 +7,14 @@ pub mod Finding
 pub mod Gathered
 pub mod Holds
 pub mod Keyed
+pub mod Latest
 pub mod Laws
 pub mod Named
 pub mod Pieces
 pub mod Places
 pub mod Plain
 pub mod Powers
+pub mod Runs
 pub mod Scans
 pub mod Short
 pub mod Sizes

@@ -5,6 +5,7 @@ use Rattle.json.specs.Find.{as_object, get, get_member, later_or}
 use Rattle.qa_qlog.specs.declared.heads.TimeForm.{TimeForm}
 use Rattle.qa_qlog.specs.Heads.{form_named, form_of_fields}
 use Rattle.qa_qlog.specs.Records.{zipped}
+use Rattle.qa_qlog.proofs.Latest.{or_none, newer}
 
 -- ---- one at a time
 
@@ -25,14 +26,6 @@ pub form_passed : (fields rest : List (List ℕ)) (text : List ℕ) → fields �
 form_passed fields rest text are is = ap form_of_fields are ∙ rw is refl
 
 -- ---- values of fields
-
-or_none : (o : Option Json) → o ≡ later_or o None
-or_none None = refl
-or_none (Some j) = refl
-
-newer : (o : Option Json) (j : Json) (p : Option Json) → later_or (later_or o (Some j)) p ≡ later_or o (Some j)
-newer None j p = refl
-newer (Some k) j p = refl
 
 pub zip_begun : (key : List ℕ) (fields : List (List ℕ)) (js : Items) → get_member key (zipped fields js) ≡ later_or (get_member key (zipped fields js)) None
 zip_begun key fields js = or_none (get_member key (zipped fields js))

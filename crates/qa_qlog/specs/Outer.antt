@@ -4,6 +4,7 @@
 use Rattle.std.specs.Prelude.{◌==◌, ◌||◌, ◌&&◌, ◌+◌, ◌-◌, ℕ, Bool, true, false, not, List, [], ◌∷◌}
 use Rattle.std.specs.Prelude.{min}
 use Rattle.std.specs.Prelude.{nat_le, codes, Option, Some, None, if◌then◌else◌}
+use Rattle.std.specs.List.{prefix_len}
 use Rattle.qa_qlog.specs.declared.outer.Level.{Level}
 use Rattle.qa_qlog.specs.declared.outer.Level.TheVariants.{Outside, Document, Traces, Trace, Events}
 use Rattle.qa_qlog.specs.declared.outer.Part.{Part}
@@ -40,6 +41,9 @@ is_closing b = b == 125 || b == 93
 -- can be a bracket, or begin or end a string, or escape a byte in one
 abbrev pub is_structural : ℕ → Bool
 is_structural b = b == quote || (b == backslash || (is_opening b || is_closing b))
+
+abbrev pub is_plain : ℕ → Bool
+is_plain b = not (is_structural b)
 
 -- ends a number, `true`, `false` or `null`
 abbrev pub is_end : ℕ → Bool
@@ -222,10 +226,6 @@ is_whole part.Start = true
 is_whole part.Behind = true
 is_whole _ = false
 
-abbrev pub is_escape : Part → Bool
-is_escape part.Escape = true
-is_escape _ = false
-
 abbrev pub is_scalar : Part → Bool
 is_scalar part.Scalar = true
 is_scalar _ = false
@@ -247,3 +247,10 @@ scanned p [] = record { len = 0; position = p }
 scanned p (b ∷ bs) =
     if is_nested (in_value p.part p b).part then further 1 (scanned (in_value p.part p b) bs)
     else record { len = 1; position = in_value p.part p b }
+
+-- how many of the bytes a scan at this part passes over at once, since they leave its position as
+-- it is
+abbrev pub passed : Part → List ℕ → ℕ
+passed part.Nested bs = prefix_len is_plain bs
+passed part.Text bs = prefix_len is_plain bs
+passed _ bs = 0

@@ -25,6 +25,7 @@ mod parameters;
 mod records;
 mod says;
 mod secrets;
+mod structural;
 mod texts;
 mod timers;
 mod times;

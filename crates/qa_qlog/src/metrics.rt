@@ -1,13 +1,14 @@
 //! What a report says of the state of the sender: `metrics_updated` of category `recovery`.
-ghost use Rattle.std.specs.Prelude.{◌≡◌, bytes_eq, Option};
+ghost use Rattle.std.specs.Prelude.{◌≡◌, bytes_eq, codes, Option};
 ghost use Rattle.json.specs.Json.{Json};
 ghost use Rattle.json.specs.Json as json;
 ghost use Rattle.json.specs.Find.{BeginsWith, InMembers, Finds};
 ghost use Rattle.qa_qlog.specs.Metrics as metrics;
+ghost use Rattle.qa_qlog.specs.Says as said;
 
 use crate::keys::{Key, NoValue};
-use crate::numbers::{duration_in, optional_at, whole_in};
-use crate::says::{is_given, key_at};
+use crate::numbers::{optional_at, optional_duration};
+use crate::says::{four_at, is_given, key_at};
 use crate::times::Unit;
 use json::{Element, Members};
 use qa_base::PacketNumber;
@@ -40,10 +41,17 @@ pub struct ByteCounts {
 pub fn reported_rtts(object: &Option<Element<'_, '_>>, unit: Unit) -> Result<Rtts, NoValue>
     ensures { (d : Option Json) → Finds object.now d → result ≡ metrics.rtts unit d }
 {
-    let latest = duration_in(object, Key::LatestRtt, unit);
-    let min = duration_in(object, Key::MinRtt, unit);
-    let smoothed = duration_in(object, Key::SmoothedRtt, unit);
-    let variance = duration_in(object, Key::RttVariance, unit);
+    let found = four_at(
+        object,
+        "latest_rtt",
+        "min_rtt",
+        "smoothed_rtt",
+        "rtt_variance",
+    );
+    let latest = optional_duration(&found.first, Key::LatestRtt, unit);
+    let min = optional_duration(&found.second, Key::MinRtt, unit);
+    let smoothed = optional_duration(&found.third, Key::SmoothedRtt, unit);
+    let variance = optional_duration(&found.fourth, Key::RttVariance, unit);
     rtts_of(latest, min, smoothed, variance)
 }
 
@@ -68,9 +76,16 @@ fn rtts_of(
 pub fn reported_bytes(object: &Option<Element<'_, '_>>) -> Result<ByteCounts, NoValue>
     ensures { (d : Option Json) → Finds object.now d → result ≡ metrics.sizes d }
 {
-    let window = window(object);
-    let ssthresh = ssthresh(object);
-    let in_flight = whole_in(object, Key::BytesInFlight);
+    let found = four_at(
+        object,
+        "congestion_window",
+        "ssthresh",
+        "bytes_in_flight",
+        "cwnd",
+    );
+    let window = window(object, found.first, found.fourth);
+    let ssthresh = ssthresh(&found.second);
+    let in_flight = optional_at(&found.third, Key::BytesInFlight);
     sizes_of(window, ssthresh, in_flight)
 }
 
@@ -89,33 +104,32 @@ fn sizes_of(
     })
 }
 
-/// The congestion window.
-fn window(object: &Option<Element<'_, '_>>) -> Result<Option<u64>, NoValue>
-    ensures { (d : Option Json) → Finds object.now d → result ≡ metrics.window d }
+/// The congestion window, which may be at one of three keys.
+fn window(
+    object: &Option<Element<'_, '_>>,
+    first: Option<Element<'_, '_>>,
+    second: Option<Element<'_, '_>>,
+) -> Result<Option<u64>, NoValue>
+    ensures { (d : Option Json) → Finds object.now d
+        → Finds first.entry (said.key_at (codes "congestion_window") d)
+        → Finds second.entry (said.key_at (codes "cwnd") d)
+        → result ≡ metrics.window d }
 {
-    optional_at(&window_at(object), Key::CongestionWindow)
-}
-
-/// What is given at the first of the keys for the window.
-fn window_at<'t, 'a>(object: &Option<Element<'t, 'a>>) -> Option<Element<'t, 'a>>
-    ensures { (d : Option Json) → Finds object.now d → Finds result (metrics.window_at d) }
-{
-    let found = key_at(object, "congestion_window");
-    if is_given(&found) {
-        return found;
+    if is_given(&first) {
+        return optional_at(&first, Key::CongestionWindow);
     }
-    let found = key_at(object, "cwnd");
-    if is_given(&found) {
-        return found;
+    if is_given(&second) {
+        return optional_at(&second, Key::CongestionWindow);
     }
-    key_at(object, "current_cwnd")
+    optional_at(&key_at(object, "current_cwnd"), Key::CongestionWindow)
 }
 
 /// The slow start threshold; above 2^62 - 1 there is none.
-fn ssthresh(object: &Option<Element<'_, '_>>) -> Result<Option<u64>, NoValue>
-    ensures { (d : Option Json) → Finds object.now d → result ≡ metrics.ssthresh d }
+fn ssthresh(found: &Option<Element<'_, '_>>) -> Result<Option<u64>, NoValue>
+    ensures { (d : Option Json) → Finds found.now (said.key_at (codes "ssthresh") d)
+        → result ≡ metrics.ssthresh d }
 {
-    match whole_in(object, Key::Ssthresh) {
+    match optional_at(found, Key::Ssthresh) {
         Ok(Some(size)) if PacketNumber::MAX < size => Ok(None),
         other => other,
     }

@@ -151,7 +151,7 @@ pub fn duration_in(
 }
 
 /// The nanoseconds of the duration at a key; none if there is nothing, or null.
-fn optional_duration(
+pub(crate) fn optional_duration(
     found: &Option<Element<'_, '_>>,
     key: Key,
     unit: Unit,

@@ -1,7 +1,9 @@
 //! Where a log that is one JSON object is being read: in which of its outer containers, and at
 //! which part of it.
-ghost use Rattle.std.specs.Prelude.{◌≡◌, ◌≤◌, length};
+ghost use Rattle.std.specs.Prelude.{◌≡◌, ◌+◌, ◌≤◌, length, drop};
 ghost use Rattle.qa_qlog.specs.Outer as outer;
+
+use crate::structural::plain_end;
 
 /// Which container of a log is being read; a list or an object elsewhere is a value as any other.
 #[derive(Clone, Copy, Debug, PartialEq, Eq)]
@@ -235,10 +237,6 @@ impl Position {
     fn in_value(self, byte: u8) -> Position
         ensures { result ≡ outer.in_value self.part self byte }
     {
-        // Most bytes are none of these.
-        if !is_structural(byte) && !is_escape(self.part) {
-            return self;
-        }
         match self.part {
             Part::Text => self.in_text(byte),
             Part::Escape => self.at(Part::Text),
@@ -298,18 +296,32 @@ pub fn scan(bytes: &[u8], position: Position) -> Extent
     ensures extent { result ≡ outer.scanned position bytes.now }
 {
     let mut now = position;
-    for (i, byte) in bytes.iter().enumerate() {
-        now = now.in_value(*byte);
-        if !is_nested(now.part) {
+    let mut len = 0;
+    loop {
+        let place = next_place(bytes, len, now.part);
+        let Some(byte) = bytes.get(place) else {
             return Extent {
-                len: i + 1,
+                len: bytes.len(),
                 position: now,
             };
+        };
+        now = now.in_value(*byte);
+        len = place + 1;
+        if !is_nested(now.part) {
+            return Extent { len, position: now };
         }
     }
-    Extent {
-        len: bytes.len(),
-        position: now,
+}
+
+/// The place, from this one on, of the next byte that can change the position at such a part.
+fn next_place(bytes: &[u8], from: usize, part: Part) -> usize
+    requires { from ≤ length bytes.now }
+    ensures place { result ≡ from + outer.passed part (drop from bytes.now) }
+    ensures within { result ≤ length bytes.now }
+{
+    match part {
+        Part::Nested | Part::Text => plain_end(bytes, from),
+        _ => from,
     }
 }
 
@@ -371,20 +383,6 @@ pub fn name_of(level: Level) -> &'static [u8]
         Level::Document => b"\"traces\"",
         _ => b"\"events\"",
     }
-}
-
-/// Whether a byte can be a bracket, or begin or end a string, or escape a byte in one.
-fn is_structural(byte: u8) -> bool
-    ensures { result ≡ outer.is_structural byte }
-{
-    matches!(byte, b'"' | b'\\' | b'{' | b'}' | b'[' | b']')
-}
-
-/// Whether a byte in a string is escaped.
-fn is_escape(part: Part) -> bool
-    ensures { result ≡ outer.is_escape part }
-{
-    matches!(part, Part::Escape)
 }
 
 /// White space of JSON.

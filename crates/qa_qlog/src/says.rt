@@ -1,14 +1,15 @@
 //! What a value of a text says.
-ghost use Rattle.std.specs.Prelude.{◌≡◌, List, Option, option_map};
+ghost use Rattle.std.specs.Prelude.{◌≡◌, List, MatchOption, Option, None, Some, option_map};
 ghost use Rattle.json.specs.Json.{Json};
+ghost use Rattle.json.specs.Json as json;
 ghost use Rattle.json.specs.Find as find;
-ghost use Rattle.json.specs.Find.{BeginsWith, Finds};
+ghost use Rattle.json.specs.Find.{BeginsWith, InMembers, Finds};
 ghost use Rattle.std.specs.Str.{bytes_eq};
 ghost use Rattle.qa_qlog.specs.Kinds.{is_string};
 ghost use Rattle.qa_qlog.specs.Says as said;
 
 use crate::times::is_nothing;
-use json::Element;
+use json::{Element, Members};
 
 /// Whether it says anything: null, false, 0 and what is empty do not.
 pub(crate) fn says(value: &Element<'_, '_>) -> bool
@@ -91,6 +92,90 @@ pub(crate) fn get<'t, 'a>(value: &Element<'t, 'a>, name: &str) -> Option<Element
         }
     }
     found
+}
+
+/// What an object says at four keys: of each the last member of that name.
+#[derive(Drop)]
+pub(crate) struct FourFound<'t, 'a> {
+    pub(crate) first: Option<Element<'t, 'a>>,
+    pub(crate) second: Option<Element<'t, 'a>>,
+    pub(crate) third: Option<Element<'t, 'a>>,
+    pub(crate) fourth: Option<Element<'t, 'a>>,
+}
+
+/// What is found at four keys of different names, if there is an object: it is walked through once.
+#[inline(always)]
+pub(crate) fn four_at<'t, 'a>(
+    found: &Option<Element<'t, 'a>>,
+    first: &str,
+    second: &str,
+    third: &str,
+    fourth: &str,
+) -> FourFound<'t, 'a>
+    requires { said.AreFour first.now second.now third.now fourth.now }
+    ensures { (o : Option Json) → Finds found.now o
+        → said.FindsFour result (λ name. said.key_at name o)
+        first.now second.now third.now fourth.now }
+{
+    match members_at(found) {
+        Some(members) => four_in(members, first, second, third, fourth),
+        None => FourFound {
+            first: None,
+            second: None,
+            third: None,
+            fourth: None,
+        },
+    }
+}
+
+/// The members of an object, if there is one.
+fn members_at<'t, 'a>(found: &Option<Element<'t, 'a>>) -> Option<Members<'t, 'a>>
+    ensures { (o : Option Json) → Finds found.now o
+        → MatchOption result (said.object_at o ≡ None)
+        (λ rest. (ms : json.Members) × (said.object_at o ≡ Some ms) × InMembers rest ms) }
+{
+    match found {
+        Some(value) => value.members(),
+        None => None,
+    }
+}
+
+/// The last members of four different names.
+#[inline(always)]
+fn four_in<'t, 'a>(
+    members: Members<'t, 'a>,
+    first: &str,
+    second: &str,
+    third: &str,
+    fourth: &str,
+) -> FourFound<'t, 'a>
+    requires { said.AreFour first.now second.now third.now fourth.now }
+    ensures { (ms : json.Members) → InMembers members.entry ms
+        → said.FindsFour result (λ name. find.get_member name ms)
+        first.now second.now third.now fourth.now }
+{
+    let mut members = members;
+    let mut at_first = None;
+    let mut at_second = None;
+    let mut at_third = None;
+    let mut at_fourth = None;
+    while let Some((key, member)) = members.next() {
+        if is_same(key, first) {
+            at_first = Some(member);
+        } else if is_same(key, second) {
+            at_second = Some(member);
+        } else if is_same(key, third) {
+            at_third = Some(member);
+        } else if is_same(key, fourth) {
+            at_fourth = Some(member);
+        }
+    }
+    FourFound {
+        first: at_first,
+        second: at_second,
+        third: at_third,
+        fourth: at_fourth,
+    }
 }
 
 /// Whether two texts are the same.

@@ -1,17 +1,11 @@
-use Rattle.std.proofs.Common.{◌≡◌, Bool, true, false, cond, Option, option_map, Some, None, refl, sym, ap, ◌∙◌, subst, arith}
+-- The last member of one name, found in a walk.
+use Rattle.std.proofs.Common.{◌≡◌, ◌∙◌, true, false, option_map, None, refl, sym, ap, subst, arith}
 use Rattle.std.specs.Str.{bytes_eq}
-use Rattle.json.specs.Json.{Json, no_members}
-use Rattle.json.specs.Find.{NextMember, Finds, later_or, get_member, get}
+use Rattle.json.specs.Json.{no_members}
+use Rattle.json.specs.Find.{NextMember, Finds, get}
+use Rattle.qa_qlog.proofs.Latest.{or_none, named, other, ended}
 use Rattle.qa_qlog.proofs.Named.{get_nothing}
 use Rattle.qa_qlog.proofs.says.get.Goals as goal
-
-or_none : (o : Option Json) → o ≡ later_or o None
-or_none None = refl
-or_none (Some j) = refl
-
-newer : (o : Option Json) (j : Json) (p : Option Json) → later_or (later_or o (Some j)) p ≡ later_or o (Some j)
-newer None j p = refl
-newer (Some k) j p = refl
 
 pub returns-in_err-members : goal.returns-in_err-members
 returns-in_err-members c j begins =
@@ -21,30 +15,26 @@ returns-in_err-members c j begins =
 pub loop-key-init : goal.loop-key-init
 loop-key-init c j begins =
     let shape = c.in_ok-members.ensures j begins in
-    (shape.0, None, shape.2, refl, ap (get c.args.name.now) shape.1 ∙ or_none _)
+    (shape.0, shape.2, (None, refl, ap (get c.args.name.now) shape.1 ∙ or_none _))
 
 pub loop-key-preserved-then-is_same : goal.loop-key-preserved-then-is_same
 loop-key-preserved-then-is_same c j begins =
     let name = c.args.name.now in
     let now = c.loop-key.invariant j begins in
-    let f = c.in-Some.ensures.value now.0 now.2 in
-    let turn = now.4 ∙ ap (λ ms. later_or (get_member name ms) now.1) f.2 in
-    let pick = λ (b : Bool). later_or (later_or (get_member name f.1) (cond b (Some f.0) None)) now.1 in
+    let f = c.in-Some.ensures.value now.0 now.1 in
     let same : bytes_eq c.in-Some.key.now name ≡ true = grind arith in
-    (f.1, Some f.0, f.4, (f.0, refl, f.3), turn ∙ ap pick same ∙ newer (get_member name f.1) f.0 now.1)
+    (f.1, f.4, named name c.in-Some.key.now (get name j) now.0 f.1 f.0 c.loop-key.found c.in-Some.member now.2 f.2 f.3 same)
 
 pub loop-key-preserved : goal.loop-key-preserved
 loop-key-preserved c j begins =
     let name = c.args.name.now in
     let now = c.loop-key.invariant j begins in
-    let f = c.in-Some.ensures.value now.0 now.2 in
-    let turn = now.4 ∙ ap (λ ms. later_or (get_member name ms) now.1) f.2 in
-    let pick = λ (b : Bool). later_or (later_or (get_member name f.1) (cond b (Some f.0) None)) now.1 in
-    let other : bytes_eq c.in-Some.key.now name ≡ false = grind arith in
-    (f.1, now.1, f.4, now.3, turn ∙ ap pick other ∙ ap (λ o. later_or o now.1) (sym (or_none _)))
+    let f = c.in-Some.ensures.value now.0 now.1 in
+    let differs : bytes_eq c.in-Some.key.now name ≡ false = grind arith in
+    (f.1, f.4, other name c.in-Some.key.now (get name j) now.0 f.1 f.0 c.loop-key.found now.2 f.2 differs)
 
 pub returns : goal.returns
 returns c j begins =
     let now = c.loop-key.invariant j begins in
-    let done : now.0 ≡ no_members = subst (λ r. NextMember c.loop-key.members (option_map (λ m. (m.0.now, m.1)) r) c.next.new.self) c.in_default.is c.next.ensures.value now.0 now.2 in
-    subst (Finds c.loop-key.found) (sym (now.4 ∙ ap (λ ms. later_or (get_member c.args.name.now ms) now.1) done)) now.3
+    let done : now.0 ≡ no_members = subst (λ r. NextMember c.loop-key.members (option_map (λ m. (m.0.now, m.1)) r) c.next.new.self) c.in_default.is c.next.ensures.value now.0 now.1 in
+    ended c.args.name.now (get c.args.name.now j) now.0 c.loop-key.found now.2 done

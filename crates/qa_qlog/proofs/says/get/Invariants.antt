@@ -1,11 +1,13 @@
-use Rattle.std.proofs.Common.{◌≡◌, length, Option}
+-- What holds while the members of an object are walked through for one name.
+use Rattle.std.proofs.Common.{length}
 use Rattle.json.specs.Json.{Json, Members}
-use Rattle.json.specs.Find.{BeginsWith, InMembers, Finds, later_or, get_member, get}
+use Rattle.json.specs.Find.{BeginsWith, InMembers, get}
+use Rattle.qa_qlog.proofs.Latest.{Latest}
 use Rattle.qa_qlog.proofs.says.get.Given as goal
 
 abbrev pub invariant-loop-key : goal.invariant-loop-key
 invariant-loop-key l =
-    (j : Json) → BeginsWith l.value j → (rest : Members) × (earlier : Option Json) × InMembers l.members rest × Finds l.found earlier × (get l.name j ≡ later_or (get_member l.name rest) earlier)
+    (j : Json) → BeginsWith l.value j → (rest : Members) × InMembers l.members rest × Latest l.name (get l.name j) rest l.found
 
 abbrev pub decreases-loop-key : goal.decreases-loop-key
 decreases-loop-key l = length l.members
