@@ -59,22 +59,6 @@ keeps_open first told olds news more is =
 
 -- ---- a group ends
 
-keeps_ended : (first c : Bool) (es joined more kept : List LoggedEvent) → Keeps first false c ((es ++ []) ++ []) (joined ++ more) kept → Keeps first false c ((es ++ joined) ++ []) more kept
-keeps_ended first c es joined more kept is =
-    rw (append-nil (es ++ joined)) (keeps_joined first c es joined more kept (rw (append-nil (es ++ []), append-nil es) at is))
-
-pub gathers_ended : (first : Bool) (new : Held) (es joined more : List LoggedEvent) (out out' : List Group)
-    → Gathers record { events = (es ++ []) ++ []; is_closed = false; reports_first = first } (joined ++ more) new out out'
-    → Gathers record { events = (es ++ joined) ++ []; is_closed = false; reports_first = first } more new out out'
-gathers_ended first new es joined more out out' is = record {
-  ended = is.ended;
-  handed = is.handed;
-  groups = is.groups;
-  unclosed = is.unclosed;
-  order = is.order;
-  kept = keeps_ended first new.is_closed es joined more (events first is.ended ++ new.events) is.kept;
-}
-
 pub or_none : (a : Bool) → (a || false) ≡ a
 or_none true = refl
 or_none false = refl
@@ -141,14 +125,6 @@ gathers_closed first closed last begun report es left out out' not none report_i
   order = refl;
   kept = rw (told_last first last) (keeps_closed first closed last begun report es (events_of first left) not none report_is up);
 }
-
--- a group ended, and more events come
-pub gathers_shift : (first closed : Bool) (last : Option Group) (begun : Option Open) (report : Option LoggedEvent) (o : Open) (more : List LoggedEvent) (new : Held) (out out' : List Group)
-    → closed ≡ false → begun ≡ Some o → report ≡ None
-    → Gathers record { events = kept_events first closed last None report; is_closed = closed; reports_first = first } (events_of first o.group ++ more) new out out'
-    → Gathers record { events = kept_events first closed last begun report; is_closed = closed; reports_first = first } more new out out'
-gathers_shift first closed last begun report o more new out out' not is none gathers =
-    rw (not, is, none) (gathers_ended first new (told_by first last) (events_of first o.group) more out out' (rw (not, none) at gathers))
 
 -- ---- two clauses of one result
 

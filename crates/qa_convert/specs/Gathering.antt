@@ -12,8 +12,6 @@ use Rattle.qa_convert.specs.declared.groups.About.{About}
 use Rattle.qa_convert.specs.declared.groups.About.TheVariants as about
 use Rattle.qa_convert.specs.declared.groups.Gathering.{Gathering}
 use Rattle.qa_convert.specs.declared.groups.Group.{Group}
-use Rattle.qa_convert.specs.declared.groups.Next.{Next}
-use Rattle.qa_convert.specs.declared.groups.Next.TheVariants as next
 use Rattle.qa_convert.specs.declared.groups.Open.{Open}
 use Rattle.qa_convert.specs.declared.groups.PacketAt.{PacketAt}
 use Rattle.qa_convert.specs.declared.groups.Takes.{Takes}
@@ -47,12 +45,12 @@ IsOpen d o =
     IsGroup o.group
     × Fits d.metrics_stand_before d.losses_stand_before o.group.about o.group.beside.items o.takes
 
--- an open group goes on with an event, or the event is of another
-abbrev pub GoesOn : Dialect → Open → LoggedEvent → Next → Type 0
-GoesOn d o e (next.Open more) =
+-- an open group goes on with an event, or stays as it was and gives the event back
+abbrev pub GoesOn : Dialect → Open → LoggedEvent → Open → Option LoggedEvent → Type 0
+GoesOn d o e more None =
     IsOpen d more × (events_of d.metrics_stand_before more.group
     ≡ events_of d.metrics_stand_before o.group ++ e ∷ [])
-GoesOn d o e (next.Other same event) = (same ≡ o) × (event ≡ e)
+GoesOn d o e same (Some event) = (same ≡ o) × (event ≡ e)
 
 -- what a group is about that begins with an event
 pub record BeginsWith (e : LoggedEvent) (about : About) : Type 0 where

@@ -142,24 +142,24 @@ impl Converting {
 
     /// What a record of this name says, with the size of a packet that is sent.
     fn said(&self, name: EventName, packet: &Packet<'_, '_>) -> Result<Said, NoRecord> {
-        match Said::of(self.alloc, name, packet, self.head.unit)? {
-            Said::Sent(sent) => Ok(Said::Sent(self.sized(packet, sent)?)),
-            said => Ok(said),
+        let mut said = Said::of(self.alloc, name, packet, self.head.unit)?;
+        if let Said::Sent(sent) = &mut said {
+            self.give_size(packet, sent)?;
         }
+        Ok(said)
     }
 
-    /// A packet that is sent, with its size.
-    fn sized(&self, packet: &Packet<'_, '_>, sent: LoggedPacket) -> Result<LoggedPacket, NoRecord> {
+    /// Gives a packet that is sent its size, if its record does not have it.
+    fn give_size(&self, packet: &Packet<'_, '_>, sent: &mut LoggedPacket) -> Result<(), NoRecord> {
         if sent.size.is_some() {
-            return Ok(sent);
+            return Ok(());
         }
-        let mut sent = sent;
-        if let Some(found) = self.sizes.find(packet)? {
+        if let Some(found) = self.sizes.find(packet, sent.space)? {
             sent.size = Some(found.size);
             sent.is_size_guessed = true;
             sent.keeps_room = found.keeps_room;
         }
-        Ok(sent)
+        Ok(())
     }
 
     /// Takes the losses that a record names, whose data is this object.

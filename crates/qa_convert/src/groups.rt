@@ -16,6 +16,7 @@ use qa_base::Space;
 use std::alloc::{AllocError, Global};
 use std::collections::VecDeque;
 use std::marker::Model;
+use std::mem;
 
 /// A packet, and where and when its record is.
 #[derive(Drop)]
@@ -248,17 +249,14 @@ impl Gathering {
         if self.is_closed {
             return Ok(());
         }
-        let Some(open) = self.open.take() else {
+        let Some(open) = &mut self.open else {
             return self.begin(event);
         };
-        match open.with(event, &self.dialect)? {
-            Next::Open(open) => {
-                self.open = Some(open);
-                Ok(())
-            }
-            Next::Other(open, event) => {
-                self.finish(open.group, out)?;
-                self.begin(event)
+        match open.with(event, &self.dialect, self.alloc)? {
+            None => Ok(()),
+            Some(other) => {
+                self.close(out)?;
+                self.begin(other)
             }
         }
     }
@@ -441,99 +439,99 @@ impl Groups {
     }
 }
 
-/// What became of an open group and an event.
-enum Next {
-    /// It goes on with the event.
-    Open(Open),
-    /// The event is of another group.
-    Other(Open, LoggedEvent),
-}
-
 impl Open {
-    /// Goes on with an event, if it is of the group.
-    fn with(self, event: LoggedEvent, dialect: &Dialect) -> Result<Next, AllocError>
-        requires { IsOpen dialect.now self }
-        ensures { IfOk result (GoesOn dialect.now self event) }
+    /// Goes on with an event, if it is of the group; or else gives it back, and stays as it was.
+    /// After `AllocError` it is of no use.
+    fn with(
+        &mut self,
+        event: LoggedEvent,
+        dialect: &Dialect,
+        alloc: Global,
+    ) -> Result<Option<LoggedEvent>, AllocError>
+        requires { IsOpen dialect.now self.old }
+        ensures { IfOk result (GoesOn dialect.now self.old event self.new) }
     {
         if self.takes.has(&event.said) {
-            let mut open = self;
-            open.group.beside.push(event)?;
-            return Ok(Next::Open(open));
+            self.group.beside.push(event)?;
+            return Ok(None);
         }
         let LoggedEvent { at, said } = event;
         match said {
             Said::Sent(packet) => self.with_sent(PacketAt { at, packet }, dialect),
             Said::Lost(lost) => self.with_lost(LostAt { at, lost }, dialect),
-            Said::Received(packet) => self.with_received(PacketAt { at, packet }, dialect),
-            said => Ok(Next::Other(self, LoggedEvent { at, said })),
+            Said::Received(packet) => Ok(self.with_received(
+                PacketAt { at, packet },
+                dialect,
+                alloc,
+            )),
+            said => Ok(Some(LoggedEvent { at, said })),
         }
     }
 
     /// Goes on with a packet that was sent, if it may be of the same datagram: it is in front of
     /// the reports, and may not be that of a probe timeout.
-    fn with_sent(self, packet: PacketAt, dialect: &Dialect) -> Result<Next, AllocError>
-        requires { IsOpen dialect.now self }
-        ensures { IfOk result (GoesOn dialect.now self (groups.sent packet)) }
+    fn with_sent(
+        &mut self,
+        packet: PacketAt,
+        dialect: &Dialect,
+    ) -> Result<Option<LoggedEvent>, AllocError>
+        requires { IsOpen dialect.now self.old }
+        ensures { IfOk result (GoesOn dialect.now self.old (groups.sent packet) self.new) }
     {
         let is_alone = dialect.metrics_stand_before || may_be_probe(&packet.packet, dialect);
-        let mut open = self;
-        if !is_alone && open.group.beside.is_empty() {
-            if let About::Sent(packets) = &mut open.group.about {
+        if !is_alone && self.group.beside.is_empty() {
+            if let About::Sent(packets) = &mut self.group.about {
                 packets.push(packet)?;
-                return Ok(Next::Open(open));
+                return Ok(None);
             }
         }
-        Ok(Next::Other(open, packet.sent()))
+        Ok(Some(packet.sent()))
     }
 
     /// Goes on with a loss, if it may be of the same detection, which names packets downwards.
-    fn with_lost(self, lost: LostAt, dialect: &Dialect) -> Result<Next, AllocError>
-        requires { IsOpen dialect.now self }
-        ensures { IfOk result (GoesOn dialect.now self (groups.lost lost)) }
+    fn with_lost(
+        &mut self,
+        lost: LostAt,
+        dialect: &Dialect,
+    ) -> Result<Option<LoggedEvent>, AllocError>
+        requires { IsOpen dialect.now self.old }
+        ensures { IfOk result (GoesOn dialect.now self.old (groups.lost lost) self.new) }
     {
-        let mut open = self;
         if dialect.losses_stand_before {
-            if let About::Lost(losses) = &mut open.group.about {
+            if let About::Lost(losses) = &mut self.group.about {
                 if goes_on(losses, lost.lost) {
                     losses.push(lost)?;
-                    return Ok(Next::Open(open));
+                    return Ok(None);
                 }
             }
         }
-        Ok(Next::Other(
-            open,
-            LoggedEvent {
-                at: lost.at,
-                said: Said::Lost(lost.lost),
-            },
-        ))
+        Ok(Some(LoggedEvent {
+            at: lost.at,
+            said: Said::Lost(lost.lost),
+        }))
     }
 
     /// Goes on with a packet that came, if losses of its space are in front of it.
-    fn with_received(self, packet: PacketAt, dialect: &Dialect) -> Result<Next, AllocError>
-        requires { IsOpen dialect.now self }
-        ensures { IfOk result (GoesOn dialect.now self (groups.received packet)) }
+    fn with_received(
+        &mut self,
+        packet: PacketAt,
+        dialect: &Dialect,
+        alloc: Global,
+    ) -> Option<LoggedEvent>
+        requires { IsOpen dialect.now self.old }
+        ensures { GoesOn dialect.now self.old (groups.received packet) self.new result }
     {
-        let space = packet.packet.space;
-        let Open { group, takes } = self;
-        let Group { about, beside } = group;
-        match about {
-            About::Lost(losses) => {
-                if dialect.losses_stand_before && is_of(&losses, space) {
-                    let about = About::Received(packet, losses);
-                    let group = Group { about, beside };
-                    let takes = Takes::Reports;
-                    return Ok(Next::Open(Open { group, takes }));
+        if dialect.losses_stand_before {
+            if let About::Lost(losses) = &mut self.group.about {
+                if is_of(losses, packet.packet.space) {
+                    let losses = mem::replace(losses, Vec::new(alloc));
+                    self.group.about = About::Received(packet, losses);
+                    self.takes = Takes::Reports;
+                    return None;
                 }
-                let about = About::Lost(losses);
-                let group = Group { about, beside };
-                Ok(Next::Other(Open { group, takes }, packet.received()))
-            }
-            about => {
-                let group = Group { about, beside };
-                Ok(Next::Other(Open { group, takes }, packet.received()))
             }
         }
+        Some(packet.received())
     }
 }
 

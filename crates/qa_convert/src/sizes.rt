@@ -3,7 +3,7 @@
 //! They are read off the headers and frames if each frame has its length. A STREAM frame that has
 //! none fills its packet, unless the next data of its stream begins earlier. Of the last one of a
 //! stream nothing says how long it is, so the least is taken.
-use crate::packet::{NoEvent, space_of};
+use crate::packet::NoEvent;
 use crate::size::PacketSize;
 use json::Element;
 use qa_base::Space;
@@ -36,11 +36,38 @@ pub(crate) struct FoundSize {
 struct Framed<'t, 'a> {
     /// How many bytes it has, but for data without a length.
     bytes: u64,
-    /// Whether there are STREAM frames.
-    has_streams: bool,
+    /// How many STREAM frames it has.
+    streams: u64,
     /// The first frame with data that have no length, and whether there are others.
     open: Option<Element<'t, 'a>>,
     has_more: bool,
+    /// Whether that is a STREAM frame.
+    is_open_stream: bool,
+}
+
+impl<'t, 'a> Framed<'t, 'a> {
+    /// Adds a frame of this type that has so many bytes, but for data without a length.
+    fn add(&mut self, frame: Element<'t, 'a>, kind: FrameType, length: u64) {
+        let is_stream = kind == FrameType::Stream;
+        self.bytes = self.bytes.saturating_add(length);
+        if is_stream {
+            self.streams = self.streams.saturating_add(1);
+        }
+        if !is_open(&frame) {
+            return;
+        }
+        if self.open.is_some() {
+            self.has_more = true;
+            return;
+        }
+        self.open = Some(frame);
+        self.is_open_stream = is_stream;
+    }
+
+    /// Whether the first frame with data that have no length is the only STREAM frame.
+    fn is_open_alone(&self) -> bool {
+        self.is_open_stream && self.streams == 1
+    }
 }
 
 /// What is known of a stream.
@@ -74,14 +101,21 @@ impl Sizes {
         }
     }
 
-    /// Looks at the offsets of a packet that has no size, while the log is read for the first time,
-    /// and finds its size.
-    pub(crate) fn see(&mut self, packet: &Packet<'_, '_>) -> Result<Option<FoundSize>, NoEvent> {
-        let Some(framed) = size_by_frames(packet)? else {
-            return Ok(size_by_payload(packet)?);
+    /// Looks at the offsets of a packet of this space that has no size, while the log is read for
+    /// the first time, and finds its size.
+    pub(crate) fn see(
+        &mut self,
+        packet: &Packet<'_, '_>,
+        space: Space,
+    ) -> Result<Option<FoundSize>, NoEvent> {
+        let Some(framed) = size_by_frames(packet, space)? else {
+            return Ok(size_by_payload(packet, space)?);
         };
-        if framed.has_streams {
-            self.see_frames(packet, self.full.saturating_sub(framed.bytes))?;
+        let room = self.full.saturating_sub(framed.bytes);
+        match &framed.open {
+            Some(frame) if framed.is_open_alone() => self.see_frame(frame, room)?,
+            _ if framed.streams == 0 => {}
+            _ => self.see_frames(packet, room)?,
         }
         Ok(Some(self.with_open_data(packet, &framed)?))
     }
@@ -123,11 +157,15 @@ impl Sizes {
         Ok(())
     }
 
-    /// The size of a packet that has none, if anything says it.
-    pub(crate) fn find(&self, packet: &Packet<'_, '_>) -> Result<Option<FoundSize>, NoEvent> {
-        match size_by_frames(packet)? {
+    /// The size of a packet of this space that has none, if anything says it.
+    pub(crate) fn find(
+        &self,
+        packet: &Packet<'_, '_>,
+        space: Space,
+    ) -> Result<Option<FoundSize>, NoEvent> {
+        match size_by_frames(packet, space)? {
             Some(framed) => Ok(Some(self.with_open_data(packet, &framed)?)),
-            None => Ok(size_by_payload(packet)?),
+            None => Ok(size_by_payload(packet, space)?),
         }
     }
 
@@ -204,40 +242,35 @@ impl Stream {
 }
 
 /// The size of a packet by its header and by frames of which each has a length.
-fn size_by_frames<'t, 'a>(packet: &Packet<'t, 'a>) -> Result<Option<Framed<'t, 'a>>, NoValue> {
+fn size_by_frames<'t, 'a>(
+    packet: &Packet<'t, 'a>,
+    space: Space,
+) -> Result<Option<Framed<'t, 'a>>, NoValue> {
     let Some(frames) = packet.frames()? else {
         return Ok(None);
     };
     let mut frames = frames;
-    let mut total = 0u64;
     let mut is_empty = true;
-    let mut has_streams = false;
-    let mut open = None;
-    let mut has_more = false;
+    let mut framed = Framed {
+        bytes: 0,
+        streams: 0,
+        open: None,
+        has_more: false,
+        is_open_stream: false,
+    };
     while let Some(frame) = frames.next() {
         let kind = frame_type(&frame);
         let Some(length) = whole_length(&frame, kind)? else {
             return Ok(None);
         };
-        total = total.saturating_add(length);
         is_empty = false;
-        has_streams = has_streams || kind == FrameType::Stream;
-        if is_open(&frame) {
-            has_more = open.is_some();
-            if !has_more {
-                open = Some(frame);
-            }
-        }
+        framed.add(frame, kind, length);
     }
     if is_empty {
         return Ok(None);
     }
-    Ok(Some(Framed {
-        bytes: size_with_header(packet, total),
-        has_streams,
-        open,
-        has_more,
-    }))
+    framed.bytes = size_with_header(packet, space, framed.bytes);
+    Ok(Some(framed))
 }
 
 /// How many bytes a frame of this type has, but for data without a length.
@@ -255,9 +288,9 @@ fn whole_length(frame: &Element<'_, '_>, kind: FrameType) -> Result<Option<u64>,
 }
 
 /// The size by the length of the payload, or by what the header says.
-fn size_by_payload(packet: &Packet<'_, '_>) -> Result<Option<FoundSize>, NoValue> {
+fn size_by_payload(packet: &Packet<'_, '_>, space: Space) -> Result<Option<FoundSize>, NoValue> {
     if let Some(payload) = packet.payload_length()? {
-        let size = ranged(size_with_header(packet, payload))?;
+        let size = ranged(size_with_header(packet, space, payload))?;
         return Ok(Some(FoundSize {
             size,
             keeps_room: false,
@@ -277,20 +310,19 @@ fn ranged(bytes: u64) -> Result<PacketSize, NoValue> {
     PacketSize::new(bytes).ok_or(NoValue::OutOfRange(Key::Length))
 }
 
-/// The size of a packet with so many bytes of frames (RFC 9000, section 17).
-fn size_with_header(packet: &Packet<'_, '_>, payload: u64) -> u64 {
-    let space = space_of(packet);
+/// The size of a packet of this space with so many bytes of frames (RFC 9000, section 17).
+fn size_with_header(packet: &Packet<'_, '_>, space: Space, payload: u64) -> u64 {
     let destination = length_of_hex(packet.destination());
     let source = packet.source().unwrap_or("");
     let sealed = payload.saturating_add(NUMBER + TAG);
-    if space == Some(Space::App) && source.is_empty() {
+    if space == Space::App && source.is_empty() {
         return sealed.saturating_add(1).saturating_add(destination);
     }
     let ids = 1u64
         .saturating_add(destination)
         .saturating_add(1)
         .saturating_add(length_of_hex(Some(source)));
-    let token = if space == Some(Space::Initial) {
+    let token = if space == Space::Initial {
         length_of_token(packet)
     } else {
         0

@@ -292,7 +292,7 @@ impl Survey {
         self.sent_frames.see(said);
         let size = match packet.size {
             Some(size) => size,
-            None => self.find_size(said)?,
+            None => self.find_size(said, packet.space)?,
         };
         self.largest_size = self.largest_size.max(size.get());
         if packet.content.has_ack_frequency {
@@ -305,9 +305,9 @@ impl Survey {
         Ok(size)
     }
 
-    /// The size of a packet whose record does not have it.
-    fn find_size(&mut self, said: &Packet<'_, '_>) -> Result<PacketSize, NoEvent> {
-        match self.sizes.see(said)? {
+    /// The size of a packet of this space whose record does not have it.
+    fn find_size(&mut self, said: &Packet<'_, '_>, space: Space) -> Result<PacketSize, NoEvent> {
+        match self.sizes.see(said, space)? {
             Some(found) => {
                 self.has_found_sizes = true;
                 Ok(found.size)

@@ -40,6 +40,13 @@ fn bytes_of(size: Option<PacketSize>) -> u64 {
     }
 }
 
+/// Whether a packet of this space that came shows that the client's address is its own.
+fn validates(space: Space, said: &Packet<'_, '_>) -> bool {
+    space == Space::Handshake
+        || matches!(said.packet_type(), Some(PacketType::OneRtt))
+        || 0 < length_of_hex(said.token())
+}
+
 impl Validation {
     /// Before the first event of an endpoint.
     pub(crate) fn new(role: Role) -> Validation {
@@ -71,11 +78,7 @@ impl Validation {
     /// Looks at a packet that came at a time.
     pub(crate) fn see_received(&mut self, time: u64, packet: &LoggedPacket, said: &Packet<'_, '_>) {
         self.see_silence(time);
-        let is_one_rtt = matches!(said.packet_type(), Some(PacketType::OneRtt));
-        let has_token = 0 < length_of_hex(said.token());
-        if has_token || packet.space == Space::Handshake || is_one_rtt {
-            self.is_over = true;
-        }
+        self.is_over = self.is_over || validates(packet.space, said);
         if !packet.acks.is_empty() {
             self.has_ack = true;
         }

@@ -5,7 +5,7 @@ use Rattle.qa_convert.proofs.groups.Open.with.Goals as goal
 
 pub returns-then-has : goal.returns-then-has
 returns-then-has c =
-    let o = c.args.self in
+    let o = c.args.self.now in
     let d = c.args.dialect.now in
     let some : o.takes ≡ takes.Nothing → ⊥ = λ is. let no = c.if-has.ensures.nothing is in cc in
     let fits = c.requires.1 in
