@@ -4,6 +4,8 @@ pub mod Delayed
 pub mod Ending
 pub mod Flown
 pub mod Gathered
+pub mod Goes
+pub mod GroupTold
 pub mod Grouped
 pub mod Guessed
 pub mod Losses
@@ -15,6 +17,7 @@ pub mod Ordered
 pub mod Passed
 pub mod PassedOver
 pub mod Power
+pub mod Read
 pub mod Sent
 pub mod Spliced
 pub mod Texts

@@ -1,10 +1,11 @@
 -- Events that are passed on, and those that are left out.
-use Rattle.std.proofs.Common.{◌≡◌, List, [], ◌∷◌, Bool, true, false, Option, map, append-nil, refl, sym}
+use Rattle.std.proofs.Common.{◌≡◌, List, [], ◌∷◌, Bool, true, false, Option, append-nil, refl, sym}
 use Rattle.qa_convert.proofs.Gathered.{gathers_none}
+use Rattle.qa_convert.proofs.GroupTold.{tells_none}
 use Rattle.qa_convert.proofs.Ordered.{same_follows}
 use Rattle.qa_convert.specs.Groups.{Held, Keeps}
 use Rattle.qa_convert.specs.Passing.{Passes, counted, is_left_out}
-use Rattle.qa_convert.specs.Telling.{Told, line_key}
+use Rattle.qa_convert.specs.Telling.{Told}
 use Rattle.qa_convert.specs.declared.event.LoggedEvent.{LoggedEvent}
 use Rattle.qa_convert.specs.declared.groups.Group.{Group}
 use Rattle.qa_convert.specs.declared.survey.Retry.{Retry}
@@ -20,7 +21,7 @@ passes_none waits held ready before after same = record {
   follows = same_follows waits;
   written = [];
   gathers = gathers_none held held [] ready refl (keeps_same held.reports_first held.is_closed held.events);
-  told = rw same (sym (append-nil (map line_key before.sent)));
+  told = tells_none before after same;
 }
 
 counted_none : (retry : Option Retry) (e : LoggedEvent) → is_left_out retry e ≡ true → counted retry e ≡ []

@@ -52,7 +52,7 @@ keys_are s g [] ls are = ap (map line_key) are
 keys_are s g (p ∷ ps) [] are = absurd are
 keys_are s g (p ∷ ps) (l ∷ ls) are = ap₂ (λ k ks. k ∷ ks) (key_is s g p l are.0) (keys_are s g ps ls are.1)
 
-sized_and : (ps qs : List PacketAt) → sized (ps ++ qs) ≡ sized ps ++ sized qs
+pub sized_and : (ps qs : List PacketAt) → sized (ps ++ qs) ≡ sized ps ++ sized qs
 sized_and [] qs = refl
 sized_and (p ∷ ps) qs = ap (λ rest. with_size p p.packet.size ++ rest) (sized_and ps qs) ∙ sym (append_assoc (with_size p p.packet.size) (sized ps) (sized qs))
 

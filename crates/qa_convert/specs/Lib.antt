@@ -3,6 +3,7 @@ pub mod Acking
 pub mod Clocks
 pub mod Flights
 pub mod Gathering
+pub mod GroupLines
 pub mod Groups
 pub mod Guesses
 pub mod Losing
@@ -12,7 +13,9 @@ pub mod Outputs
 pub mod OwnKeys
 pub mod Passing
 pub mod Places
+pub mod Reading
 pub mod Rounding
 pub mod Said
 pub mod Sending
+pub mod Taking
 pub mod Telling

@@ -58,6 +58,8 @@ pub record IsPacketOf (unit : Unit) (d : Option Json) (p : LoggedPacket) : Type 
   pub space : space_of (packets.header_of d) d ≡ Some p.space
   pub number : packets.number (packets.header_of d) d ≡ Ok p.number
   pub size : packets.size (packets.header_of d) d ≡ Ok p.size
+  pub read : p.is_size_guessed ≡ false
+  pub room : p.keeps_room ≡ false
   pub probe : p.is_probe ≡ losses.is_probe d
   pub content : IsContentOf d p.content
   pub acks : (js : List Json) × (frames.frames d ≡ Ok js) × AreAcksOf unit js p.acks.items

@@ -3,9 +3,10 @@
 use Rattle.std.specs.Prelude.{◌≡◌, ◌++◌, ◌||◌, ℕ, Bool, false, List, [], ◌∷◌, Option, Some}
 use Rattle.std.specs.Prelude.{None, if◌then◌else◌, nat_le, nat_lt, unwrap_or}
 use Rattle.qa_base.specs.values.PerSpace.{of_space}
+use Rattle.qa_convert.specs.GroupLines.{TellsOf}
 use Rattle.qa_convert.specs.Groups.{Ends, Gathers, Held}
 use Rattle.qa_convert.specs.Orders.{Follows}
-use Rattle.qa_convert.specs.Telling.{TellsOf, Told}
+use Rattle.qa_convert.specs.Telling.{Told}
 use Rattle.qa_convert.specs.declared.event.LoggedEvent.{LoggedEvent}
 use Rattle.qa_convert.specs.declared.event.Said.{Said}
 use Rattle.qa_convert.specs.declared.event.Said.TheVariants as said
@@ -46,7 +47,7 @@ abbrev pub waiting : List LoggedEvent → Option (List LoggedEvent) → List Log
 waiting events order = events ++ unwrap_or order []
 
 -- more events come: they join those that wait, some of these go on into groups, and groups leave
--- the queue in which they are handed out, to be written: the lines tell of their packets
+-- the queue in which they are handed out, to be written: the lines tell of them
 pub record Passes (waits : List LoggedEvent) (old : Held) (ready : List Group) (before : Told)
     (more waits' : List LoggedEvent) (new : Held) (ready' : List Group) (after : Told)
     : Type 0 where
@@ -57,7 +58,7 @@ pub record Passes (waits : List LoggedEvent) (old : Held) (ready : List Group) (
   pub told : TellsOf written before after
 
 -- the log ends: the events that wait go on into groups, in their order unless the log is torn off,
--- and what is held is handed out and written
+-- and what is held is handed out: the lines tell of it
 pub record Closes (is_torn : Bool) (waits : List LoggedEvent) (old : Held) (ready : List Group)
     (before after : Told) : Type 0 where
   pub ordered : List LoggedEvent

@@ -51,15 +51,16 @@ SaysReceived unit d (said.Received p) = IsPacketOf unit d p
 SaysReceived unit d (said.OtherReceived retry) = (space d ≡ None) × (retry ≡ is_retry d)
 SaysReceived unit d _ = ⊥
 
-pub record IsLostOf (d : Option Json) (p : LostPacket) : Type 0 where
-  pub space : space d ≡ Some p.space
-  pub number : packets.number (packets.header_of d) d ≡ Ok p.number
-  pub repeated : p.is_repeated ≡ losses.is_repeated d
+-- a packet with this header h that was declared lost
+pub record IsLostOf (h d : Option Json) (is_repeated : Bool) (p : LostPacket) : Type 0 where
+  pub space : space_of h d ≡ Some p.space
+  pub number : packets.number h d ≡ Ok p.number
+  pub repeated : p.is_repeated ≡ is_repeated
 
-abbrev pub SaysLost : Option Json → Said → Type 0
-SaysLost d (said.Lost p) = IsLostOf d p
-SaysLost d said.OtherLost = space d ≡ None
-SaysLost d _ = ⊥
+abbrev pub SaysLost : Option Json → Option Json → Bool → Said → Type 0
+SaysLost h d repeated (said.Lost p) = IsLostOf h d repeated p
+SaysLost h d repeated said.OtherLost = space_of h d ≡ None
+SaysLost h d repeated _ = ⊥
 
 -- ---- reports
 
@@ -113,7 +114,7 @@ SaysRecovery unit d _ = ⊥
 abbrev pub Says : Unit → EventName → Option Json → Said → Type 0
 Says unit name.PacketSent d s = SaysSent unit d s
 Says unit name.PacketReceived d s = SaysReceived unit d s
-Says unit name.PacketLost d s = SaysLost d s
+Says unit name.PacketLost d s = SaysLost (packets.header_of d) d (losses.is_repeated d) s
 Says unit name.PacketsLost d s = s ≡ said.OtherLost
 Says unit name.MetricsUpdated d s = SaysReport unit d s
 Says unit name.RecoveryParametersSet d s = SaysRecovery unit d s

@@ -148,9 +148,3 @@ line_key l = (l.space, l.number, l.eliciting)
 
 abbrev pub packet_key : LoggedPacket → Space × ℕ × Bool
 packet_key p = (p.space, p.number, p.content.is_eliciting)
-
--- the lines of groups tell of their packets that were sent, one for one and in their order, and of
--- no others
-abbrev pub TellsOf : List Group → Told → Told → Type 0
-TellsOf gs before after =
-    map line_key after.sent ≡ map line_key before.sent ++ map packet_key (sized (sent_of gs))

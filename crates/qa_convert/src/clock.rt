@@ -1,5 +1,5 @@
 //! The times of a log, as nanoseconds from its start.
-ghost use Rattle.std.specs.Prelude.{◌≡◌, None, Some};
+ghost use Rattle.std.specs.Prelude.{◌≡◌, None, Some, pos};
 ghost use Rattle.qa_convert.specs.Clocks.{begun, last_after, shown, start_of};
 
 use qa_qlog::TimeForm;
@@ -23,6 +23,7 @@ impl Clock {
     pub fn new(form: TimeForm) -> Clock
         ensures form { result.form ≡ form }
         ensures start { result.start ≡ None }
+        ensures last { result.last ≡ pos 0 }
     {
         Clock {
             form,

@@ -1,4 +1,7 @@
 //! Which of the connections in a log is converted.
+ghost use Rattle.std.specs.Prelude.{◌≡◌, ◌⊎◌, IfOk, option_map, true};
+ghost use Rattle.qa_convert.specs.Reading.{tells_apart};
+
 use std::alloc::{AllocError, Global};
 use std::collections::BTreeMap;
 
@@ -32,7 +35,11 @@ impl Connections {
         &mut self,
         group: Option<&str>,
         path: Option<&str>,
-    ) -> Result<bool, AllocError> {
+    ) -> Result<bool, AllocError>
+        ensures { IfOk result (λ has. (has ≡ true)
+            ⊎ (tells_apart (option_map (λ s. s.now) group.entry)
+            (option_map (λ s. s.now) path.entry) ≡ true)) }
+    {
         if group.is_none() && path.is_none() {
             return Ok(true);
         }

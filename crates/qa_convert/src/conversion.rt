@@ -118,7 +118,9 @@ pub(crate) struct Conversion {
 
 impl Conversion {
     /// Before the first group.
-    pub(crate) fn new(terms: Terms, survey: &Survey, writing: Writing) -> Conversion {
+    pub(crate) fn new(terms: Terms, survey: &Survey, writing: Writing) -> Conversion
+        ensures { result.writing ≡ writing }
+    {
         let none = PerSpace {
             initial: None,
             handshake: None,

@@ -1,10 +1,17 @@
 //! The second reading of a log: its texts, one after another, as the lines of a trace.
-ghost use Rattle.std.specs.Prelude.{◌≡◌, ◌∷◌, [], IfOk, OnOk, false};
+ghost use Rattle.std.specs.Prelude.{◌≡◌, ◌∷◌, [], IfOk, List, OnOk, Option, Some, false};
+ghost use Rattle.json.specs.Json.{Json, document};
+ghost use Rattle.json.specs.Find.{BeginsWith, Finds};
+ghost use Rattle.qa_qlog.specs.Packets.{header_of};
+ghost use Rattle.qa_convert.specs.GroupLines.{TellsOf};
 ghost use Rattle.qa_convert.specs.Groups.{Gathers};
 ghost use Rattle.qa_convert.specs.Orders.{Follows};
 ghost use Rattle.qa_convert.specs.Passing as passing;
 ghost use Rattle.qa_convert.specs.Passing.{Closes, Passes, counted, waiting};
-ghost use Rattle.qa_convert.specs.Telling.{TellsOf, told_in};
+ghost use Rattle.qa_convert.specs.Reading.{GivesSize, SaysAll, SaysLosses, SaysSized, events_at};
+ghost use Rattle.qa_convert.specs.Taking.{Begins, Goes, Takes, TakesUnread, progress_of, told_of};
+ghost use Rattle.qa_convert.specs.Telling.{told_in};
+ghost use Rattle.qa_convert.specs.declared.event.Said.{Said as Kept};
 
 use crate::conversion::{Conversion, Terms};
 use crate::event::{At, LoggedEvent, Said, losses_of};
@@ -74,7 +81,10 @@ impl Converting {
         terms: Terms,
         survey: Survey,
         writing: Writing,
-    ) -> Converting {
+    ) -> Converting
+        ensures begins { Begins head (progress_of result) }
+        ensures told { told_of result ≡ told_in writing }
+    {
         let cursor = Cursor::new(alloc, &head, chosen);
         let order = if terms.dialect.received_stands_last {
             Some(InOrder::new(alloc))
@@ -98,12 +108,11 @@ impl Converting {
     }
 
     /// Takes the next text, which begins there. After an error it is of no use.
-    pub(crate) fn push(
-        &mut self,
-        room: &mut Room,
-        text: &[u8],
-        place: Place,
-    ) -> Result<(), NoMore> {
+    pub(crate) fn push(&mut self, room: &mut Room, text: &[u8], place: Place) -> Result<(), NoMore>
+        ensures { OnOk result ((j : Json) × (document text.now ≡ Some j)
+            × Takes j place (progress_of self.old) (told_of self.old) (progress_of self.new)
+            (told_of self.new)) }
+    {
         let Ok(text) = str::from_utf8(text) else {
             return Err(NoMore::Record(NoRecord::NotJson));
         };
@@ -115,7 +124,10 @@ impl Converting {
     }
 
     /// Takes a text that is not JSON, and that says nothing of packets: a report perhaps.
-    pub(crate) fn push_unread(&mut self, place: Place, is_report: bool) -> Result<(), NoLine> {
+    pub(crate) fn push_unread(&mut self, place: Place, is_report: bool) -> Result<(), NoLine>
+        ensures { OnOk result (TakesUnread place is_report (progress_of self.old)
+            (told_of self.old) (progress_of self.new) (told_of self.new)) }
+    {
         let at = self.cursor.pass(place);
         if !is_report {
             return Ok(());
@@ -127,11 +139,27 @@ impl Converting {
     }
 
     /// Takes the next record.
-    fn take(&mut self, record: &Element<'_, '_>, place: Place) -> Result<(), NoMore> {
-        let Some(named) = self.cursor.next(&self.head, record, place)? else {
-            return Ok(());
-        };
-        let Named { name, at, object } = named;
+    fn take(&mut self, record: &Element<'_, '_>, place: Place) -> Result<(), NoMore>
+        ensures { (j : Json) → BeginsWith record.now j
+            → OnOk result (Takes j place (progress_of self.old) (told_of self.old)
+            (progress_of self.new) (told_of self.new)) }
+    {
+        match self.cursor.next(&self.head, record, place)? {
+            Some(named) => self.take_event(named),
+            None => Ok(()),
+        }
+    }
+
+    /// Takes the event of a record.
+    fn take_event(&mut self, event: Named<'_, '_>) -> Result<(), NoMore>
+        ensures goes { (d : Option Json) → Finds event.entry.object d
+            → OnOk result ((all : List Kept)
+            × SaysAll self.old.head.unit event.entry.name d all
+            × Goes (events_at event.entry.at all) (progress_of self.old) (told_of self.old)
+            (progress_of self.new) (told_of self.new)) }
+        ensures cursor { self.new.cursor ≡ self.old.cursor }
+    {
+        let Named { name, at, object } = event;
         if name == EventName::PacketsLost {
             return self.take_losses(&object, at);
         }
@@ -141,7 +169,11 @@ impl Converting {
     }
 
     /// What a record of this name says, with the size of a packet that is sent.
-    fn said(&self, name: EventName, packet: &Packet<'_, '_>) -> Result<Said, NoRecord> {
+    fn said(&self, name: EventName, packet: &Packet<'_, '_>) -> Result<Said, NoRecord>
+        ensures { (d : Option Json) → Finds packet.now.object d
+            → Finds packet.now.header (header_of d)
+            → IfOk result (SaysSized self.now.head.unit name d) }
+    {
         let mut said = Said::of(self.alloc, name, packet, self.head.unit)?;
         if let Said::Sent(sent) = &mut said {
             self.give_size(packet, sent)?;
@@ -150,7 +182,9 @@ impl Converting {
     }
 
     /// Gives a packet that is sent its size, if its record does not have it.
-    fn give_size(&self, packet: &Packet<'_, '_>, sent: &mut LoggedPacket) -> Result<(), NoRecord> {
+    fn give_size(&self, packet: &Packet<'_, '_>, sent: &mut LoggedPacket) -> Result<(), NoRecord>
+        ensures { OnOk result (GivesSize sent.old sent.new) }
+    {
         if sent.size.is_some() {
             return Ok(());
         }
@@ -163,12 +197,27 @@ impl Converting {
     }
 
     /// Takes the losses that a record names, whose data is this object.
-    fn take_losses(&mut self, object: &Option<Element<'_, '_>>, at: At) -> Result<(), NoMore> {
+    fn take_losses(&mut self, object: &Option<Element<'_, '_>>, at: At) -> Result<(), NoMore>
+        ensures goes { (d : Option Json) → Finds object.now d → OnOk result ((all : List Kept)
+            × SaysLosses d all × Goes (events_at at all) (progress_of self.old)
+            (told_of self.old) (progress_of self.new) (told_of self.new)) }
+        ensures cursor { self.new.cursor ≡ self.old.cursor }
+    {
         let losses = match losses_of(self.alloc, object) {
             Ok(losses) => losses,
             Err(fault) => return Err(NoMore::Record(NoRecord::from(fault))),
         };
-        for said in losses {
+        self.pass_all(losses, at)?;
+        Ok(())
+    }
+
+    /// Passes events on, one after another, whose record is there.
+    fn pass_all(&mut self, all: Vec<Said>, at: At) -> Result<(), NoLine>
+        ensures goes { OnOk result (Goes (events_at at all.items) (progress_of self.old)
+            (told_of self.old) (progress_of self.new) (told_of self.new)) }
+        ensures cursor { self.new.cursor ≡ self.old.cursor }
+    {
+        for said in all {
             self.pass(LoggedEvent { at, said })?;
         }
         Ok(())
@@ -176,10 +225,13 @@ impl Converting {
 
     /// Passes an event on, if it is behind a Retry, and no loss of what a probe only sends again.
     fn pass(&mut self, event: LoggedEvent) -> Result<(), NoLine>
-        ensures { OnOk result (Passes (waiting self.old.events.items self.old.order)
+        ensures passes { OnOk result (Passes (waiting self.old.events.items self.old.order)
             self.old.groups self.old.ready.items (told_in self.old.conversion.writing)
             (counted self.old.retry event) (waiting self.new.events.items self.new.order)
             self.new.groups self.new.ready.items (told_in self.new.conversion.writing)) }
+        ensures head { self.new.head ≡ self.old.head }
+        ensures cursor { self.new.cursor ≡ self.old.cursor }
+        ensures retry { self.new.retry ≡ self.old.retry }
     {
         if self.leaves_out(&event)? {
             return Ok(());
@@ -196,6 +248,9 @@ impl Converting {
         ensures groups { self.new.groups ≡ self.old.groups }
         ensures events { self.new.events.items ≡ self.old.events.items }
         ensures ready { self.new.ready.items ≡ self.old.ready.items }
+        ensures head { self.new.head ≡ self.old.head }
+        ensures cursor { self.new.cursor ≡ self.old.cursor }
+        ensures retry { self.new.retry ≡ self.old.retry }
     {
         if is_of_probe(&event.said) {
             self.conversion.writing.omit(Omission::LossOfProbe)?;
@@ -219,10 +274,13 @@ impl Converting {
     /// Takes an event in the order in which things happened, and writes the groups that are
     /// complete.
     fn arrange(&mut self, event: LoggedEvent) -> Result<(), NoLine>
-        ensures { OnOk result (Passes (waiting self.old.events.items self.old.order)
+        ensures passes { OnOk result (Passes (waiting self.old.events.items self.old.order)
             self.old.groups self.old.ready.items (told_in self.old.conversion.writing)
             (event ∷ []) (waiting self.new.events.items self.new.order)
             self.new.groups self.new.ready.items (told_in self.new.conversion.writing)) }
+        ensures head { self.new.head ≡ self.old.head }
+        ensures cursor { self.new.cursor ≡ self.old.cursor }
+        ensures retry { self.new.retry ≡ self.old.retry }
     {
         self.queue(event)?;
         self.group()?;
@@ -236,6 +294,9 @@ impl Converting {
         ensures conversion { self.new.conversion ≡ self.old.conversion }
         ensures groups { self.new.groups ≡ self.old.groups }
         ensures ready { self.new.ready.items ≡ self.old.ready.items }
+        ensures head { self.new.head ≡ self.old.head }
+        ensures cursor { self.new.cursor ≡ self.old.cursor }
+        ensures retry { self.new.retry ≡ self.old.retry }
     {
         match &mut self.order {
             Some(order) => order.push(event, &mut self.events),
@@ -253,6 +314,9 @@ impl Converting {
         ensures events { OnOk result (self.new.events.items ≡ []) }
         ensures conversion { self.new.conversion ≡ self.old.conversion }
         ensures order { self.new.order ≡ self.old.order }
+        ensures head { self.new.head ≡ self.old.head }
+        ensures cursor { self.new.cursor ≡ self.old.cursor }
+        ensures retry { self.new.retry ≡ self.old.retry }
     {
         while let Some(event) = self.events.pop_front() {
             self.groups.push(event, &mut self.ready)?;
@@ -268,6 +332,9 @@ impl Converting {
         ensures events { self.new.events.items ≡ self.old.events.items }
         ensures order { self.new.order ≡ self.old.order }
         ensures groups { self.new.groups ≡ self.old.groups }
+        ensures head { self.new.head ≡ self.old.head }
+        ensures cursor { self.new.cursor ≡ self.old.cursor }
+        ensures retry { self.new.retry ≡ self.old.retry }
     {
         while let Some(group) = self.ready.pop_front() {
             self.conversion.write(group)?;

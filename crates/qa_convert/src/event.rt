@@ -3,15 +3,16 @@ ghost use Rattle.std.specs.Prelude.{◌≡◌, ◌++◌, ◌∷◌, [], IfOk, Li
 ghost use Rattle.json.specs.Json as json;
 ghost use Rattle.json.specs.Json.{Json};
 ghost use Rattle.json.specs.Find.{BeginsWith, Finds, InItems};
+ghost use Rattle.qa_convert.specs.Reading.{AreLosses, SaysLoss, SaysLosses};
 ghost use Rattle.qa_convert.specs.Said as said;
 ghost use Rattle.qa_convert.specs.Said.{IsRecoveryOf, IsReportOf, Says};
 ghost use Rattle.qa_convert.specs.Said.{SaysLost, SaysReceived, SaysSent};
-ghost use Rattle.qa_qlog.specs.Losses as losses;
+ghost use Rattle.qa_qlog.specs.Frames.{listed};
 ghost use Rattle.qa_qlog.specs.Packets.{header_of};
 
 use crate::packet::{LoggedPacket, NoEvent, number_of};
 use crate::place::Place;
-use json::Element;
+use json::{Element, Items};
 use qa_base::{PacketNumber, Space, TimerKind};
 use qa_qlog::{
     ByteCounts, EventName, Key, NoValue, Packet, PacketType, Rtts, Unit, duration_in, has_expired,
@@ -196,9 +197,8 @@ fn is_retry(packet: &Packet<'_, '_>) -> bool
 
 /// A packet that was declared lost.
 fn lost_of(packet: &Packet<'_, '_>, is_repeated: bool) -> Result<Said, NoEvent>
-    ensures { (d : Option Json) → Finds packet.now.object d
-        → Finds packet.now.header (header_of d) → is_repeated ≡ losses.is_repeated d
-        → IfOk result (SaysLost d) }
+    ensures { (h d : Option Json) → Finds packet.now.header h → Finds packet.now.object d
+        → IfOk result (SaysLost h d is_repeated) }
 {
     let Some(kind) = packet.packet_type() else {
         return Err(NoEvent::NoPacketType);
@@ -217,25 +217,45 @@ fn lost_of(packet: &Packet<'_, '_>, is_repeated: bool) -> Result<Said, NoEvent>
 pub(crate) fn losses_of(
     alloc: Global,
     object: &Option<Element<'_, '_>>,
-) -> Result<Vec<Said>, NoEvent> {
+) -> Result<Vec<Said>, NoEvent>
+    ensures { (d : Option Json) → Finds object.now d
+        → IfOk result (λ losses. SaysLosses d losses.items) }
+{
+    match lost_packets(object)? {
+        Some(headers) => losses_among(alloc, headers),
+        None => Ok(Vec::new(alloc)),
+    }
+}
+
+/// The losses of packets with these headers.
+fn losses_among(alloc: Global, headers: Items<'_, '_>) -> Result<Vec<Said>, NoEvent>
+    ensures { (js : json.Items) → InItems headers.entry js
+        → IfOk result (λ losses. AreLosses (listed js) losses.items) }
+{
+    let mut headers = headers;
     let mut losses = Vec::new(alloc);
-    let Some(packets) = lost_packets(object)? else {
-        return Ok(losses);
-    };
-    let mut packets = packets;
-    while let Some(header) = packets.next() {
-        let packet = Packet {
-            header: Some(header),
-            object: None,
-        };
-        let said = lost_of(&packet, false)?;
+    while let Some(header) = headers.next() {
+        let said = loss_of(header)?;
         push(&mut losses, said)?;
     }
     Ok(losses)
 }
 
+/// The loss of a packet with this header, of which nothing else is said.
+fn loss_of(header: Element<'_, '_>) -> Result<Said, NoEvent>
+    ensures { (j : Json) → BeginsWith header.entry j → IfOk result (SaysLoss j) }
+{
+    let packet = Packet {
+        header: Some(header),
+        object: None,
+    };
+    lost_of(&packet, false)
+}
+
 /// Adds what is said behind the others.
-fn push(losses: &mut Vec<Said>, said: Said) -> Result<(), AllocError> {
+fn push(losses: &mut Vec<Said>, said: Said) -> Result<(), AllocError>
+    ensures { OnOk result (losses.new.items ≡ losses.old.items ++ said ∷ []) }
+{
     losses.push(said)?;
     Ok(())
 }

@@ -1,5 +1,8 @@
 //! The header of a trace: what the log says of its sender, what is known of its stack, and what the
 //! user of the converter says.
+ghost use Rattle.std.specs.Prelude.{◌≡◌, OnOk};
+ghost use Rattle.qa_convert.specs.Telling.{told_in};
+
 use crate::dialects::Dialect;
 use crate::guess::Guess;
 use crate::omission::Omission;
@@ -164,7 +167,9 @@ impl Choices {
         dialect: &Dialect,
         survey: &Survey,
         writing: &mut Writing,
-    ) -> Result<Options, NoHeader> {
+    ) -> Result<Options, NoHeader>
+        ensures { OnOk result (told_in writing.new ≡ told_in writing.old) }
+    {
         let timer_late = match self.timer_late {
             Some(late) => late,
             None => limit_of(dialect, survey, writing)?,
@@ -235,7 +240,9 @@ impl Choices {
         dialect: &Dialect,
         survey: &Survey,
         writing: &mut Writing,
-    ) -> Result<Header, NoHeader> {
+    ) -> Result<Header, NoHeader>
+        ensures { OnOk result (told_in writing.new ≡ told_in writing.old) }
+    {
         let options = self.options(dialect, survey, writing)?;
         let unit = self.unit(dialect, survey);
         let size = datagram_size_of(dialect, survey, writing)?;
@@ -298,7 +305,9 @@ fn limit_of(
     dialect: &Dialect,
     survey: &Survey,
     writing: &mut Writing,
-) -> Result<Option<u64>, AllocError> {
+) -> Result<Option<u64>, AllocError>
+    ensures { OnOk result (told_in writing.new ≡ told_in writing.old) }
+{
     let by_packets = dialect.probes_by_ping || dialect.probes_by_room || dialect.probes_by_trigger;
     let logs_timers = dialect.logs_timers.unwrap_or(false) || survey.has_timers;
     let mut limit = dialect.timer_late_us;
@@ -354,7 +363,9 @@ fn is_past(dialect: &Dialect, survey: &Survey, limit: u64) -> bool {
 }
 
 /// The peer's `max_ack_delay` in the unit of the trace, if the log says it.
-fn max_ack_delay_of(survey: &Survey, writing: &mut Writing) -> Result<Option<u64>, AllocError> {
+fn max_ack_delay_of(survey: &Survey, writing: &mut Writing) -> Result<Option<u64>, AllocError>
+    ensures { OnOk result (told_in writing.new ≡ told_in writing.old) }
+{
     match survey.of_peer.max_ack_delay {
         Some(delay) => Ok(Some(writing.output.in_unit(delay))),
         None => {
@@ -369,7 +380,9 @@ fn initial_rtt_of(
     dialect: &Dialect,
     survey: &Survey,
     writing: &mut Writing,
-) -> Result<Option<u64>, AllocError> {
+) -> Result<Option<u64>, AllocError>
+    ensures { OnOk result (told_in writing.new ≡ told_in writing.old) }
+{
     let said = survey.recovery.initial_rtt.unwrap_or(0);
     let found = if said != 0 {
         Some(said)
@@ -396,7 +409,9 @@ fn window_of(
     writing: &mut Writing,
     controller: Controller,
     size: u64,
-) -> Result<Option<u64>, AllocError> {
+) -> Result<Option<u64>, AllocError>
+    ensures { OnOk result (told_in writing.new ≡ told_in writing.old) }
+{
     let said = survey
         .recovery
         .initial_window
@@ -420,7 +435,9 @@ fn datagram_size_of(
     dialect: &Dialect,
     survey: &Survey,
     writing: &mut Writing,
-) -> Result<u64, AllocError> {
+) -> Result<u64, AllocError>
+    ensures { OnOk result (told_in writing.new ≡ told_in writing.old) }
+{
     let said = survey.recovery.max_datagram_size.unwrap_or(0);
     if LEAST_DATAGRAM <= said && said <= PacketSize::MAX {
         return Ok(said);

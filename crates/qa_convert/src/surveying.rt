@@ -1,4 +1,9 @@
 //! The first reading of a log: its texts, one after another.
+ghost use Rattle.std.specs.Prelude.{◌≡◌, IfOk, None};
+ghost use Rattle.json.specs.Json.{Json};
+ghost use Rattle.json.specs.Find.{BeginsWith};
+ghost use Rattle.qa_convert.specs.Reading.{Reads, at_of, clock_before, next_index};
+
 use crate::clock::Clock;
 use crate::connections::Connections;
 use crate::event::{At, LoggedEvent, Said, losses_of};
@@ -68,7 +73,10 @@ pub(crate) struct Named<'t, 'a> {
 
 impl Cursor {
     /// Before the first record of a log with this head, if that connection is chosen.
-    pub(crate) fn new(alloc: Global, head: &Head, chosen: u64) -> Cursor {
+    pub(crate) fn new(alloc: Global, head: &Head, chosen: u64) -> Cursor
+        ensures clock { result.clock ≡ clock_before head.now }
+        ensures index { result.index ≡ 0 }
+    {
         Cursor {
             clock: Clock::new(head.form),
             connections: Connections::new(alloc, chosen),
@@ -82,7 +90,10 @@ impl Cursor {
         head: &Head,
         record: &Element<'t, 'a>,
         place: Place,
-    ) -> Result<Option<Named<'t, 'a>>, NoRecord> {
+    ) -> Result<Option<Named<'t, 'a>>, NoRecord>
+        ensures { (j : Json) → BeginsWith record.now j
+            → IfOk result (Reads head.now j place self.old self.new) }
+    {
         let index = self.index;
         self.index = self.index.saturating_add(1);
         let Some(event) = head.event(record)? else {
@@ -104,7 +115,11 @@ impl Cursor {
     }
 
     /// Passes over the next record, which is not JSON; its time is that of the one before.
-    pub(crate) fn pass(&mut self, place: Place) -> At {
+    pub(crate) fn pass(&mut self, place: Place) -> At
+        ensures at { result ≡ at_of place self.old.index self.old.clock None }
+        ensures index { self.new.index ≡ next_index self.old.index }
+        ensures clock { self.new.clock ≡ self.old.clock }
+    {
         let index = self.index;
         self.index = self.index.saturating_add(1);
         At {

@@ -1,6 +1,10 @@
 //! A log as a trace: it is read twice, text by text.
-ghost use Rattle.std.specs.Prelude.{◌≡◌, []};
+ghost use Rattle.std.specs.Prelude.{◌≡◌, [], IfOk, OnOk, Some};
+ghost use Rattle.json.specs.Json.{Json, document};
 ghost use Rattle.qa_convert.specs.OwnKeys.{AreEventLines, IsHeaderLine};
+ghost use Rattle.qa_convert.specs.Passing.{Closes};
+ghost use Rattle.qa_convert.specs.Taking.{Begins, Takes, TakesUnread};
+ghost use Rattle.qa_convert.specs.Telling.{nothing, told};
 
 use crate::conversion::Terms;
 use crate::converting::{Converting, NoMore};
@@ -124,7 +128,10 @@ impl FirstReading {
     }
 
     /// The log ends: the second reading. `head` is that of the log again.
-    pub fn second(self, head: Head) -> Result<SecondReading, NoTrace> {
+    pub fn second(self, head: Head) -> Result<SecondReading, NoTrace>
+        ensures begins { IfOk result (λ second. Begins head second.2) }
+        ensures told { IfOk result (λ second. told second.1 ≡ nothing) }
+    {
         let FirstReading {
             alloc,
             asked,
@@ -191,7 +198,7 @@ fn doubt(
 }
 
 /// The second reading of a log, by which its lines are written. Contracts see the line of the
-/// header, and the lines that were written since `clear`.
+/// header, the lines that were written since `clear`, and how far the log is read.
 #[derive(Drop)]
 pub struct SecondReading {
     line: HeaderLine,
@@ -201,28 +208,45 @@ pub struct SecondReading {
 
 impl Model for SecondReading {
     ghost use Rattle.std.specs.Prelude.{List, ℕ};
+    ghost use Rattle.qa_convert.specs.Taking.{Progress, progress_of};
 
-    ghost Value = { List ℕ × List ℕ };
+    ghost Value = { List ℕ × List ℕ × Progress };
 
-    ghost view = { λ r. (r.line, r.converting.conversion.writing.output.text) };
+    ghost view = { λ r. (
+      r.line,
+      r.converting.conversion.writing.output.text,
+      progress_of r.converting,
+    ) };
 }
 
 impl SecondReading {
     /// Takes the next text, which begins there. After an error it is of no use but for the lines
     /// that were written.
-    pub fn push(&mut self, text: &[u8], place: Place) -> Result<(), NoMore> {
+    pub fn push(&mut self, text: &[u8], place: Place) -> Result<(), NoMore>
+        ensures takes { OnOk result ((j : Json) × (document text.now ≡ Some j)
+            × Takes j place self.old.2 (told self.old.1) self.new.2 (told self.new.1)) }
+        ensures line { self.new.0 ≡ self.old.0 }
+    {
         let result = self.converting.push(&mut self.room, text, place);
         self.room.clear();
         result
     }
 
     /// Passes over a text that is not JSON, and that says nothing of packets: a report perhaps.
-    pub fn push_unread(&mut self, place: Place, is_report: bool) -> Result<(), NoLine> {
+    pub fn push_unread(&mut self, place: Place, is_report: bool) -> Result<(), NoLine>
+        ensures takes { OnOk result (TakesUnread place is_report self.old.2 (told self.old.1)
+            self.new.2 (told self.new.1)) }
+        ensures line { self.new.0 ≡ self.old.0 }
+    {
         self.converting.push_unread(place, is_report)
     }
 
     /// The log ends, perhaps torn off.
-    pub fn end(&mut self, is_torn: bool) -> Result<(), NoLine> {
+    pub fn end(&mut self, is_torn: bool) -> Result<(), NoLine>
+        ensures closes { OnOk result (Closes is_torn self.old.2.waits self.old.2.held
+            self.old.2.ready (told self.old.1) (told self.new.1)) }
+        ensures line { self.new.0 ≡ self.old.0 }
+    {
         self.converting.end(is_torn)
     }
 
@@ -246,7 +270,7 @@ impl SecondReading {
 
     /// Takes those lines away.
     pub fn clear(&mut self)
-        ensures { self.new ≡ (self.old.0, []) }
+        ensures { self.new ≡ (self.old.0, [], self.old.2) }
     {
         self.converting.conversion.writing.output.text.clear();
     }

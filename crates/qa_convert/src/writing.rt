@@ -5,7 +5,7 @@ ghost use Rattle.qa_base.specs.values.Events.{is_named, is_space};
 ghost use Rattle.qa_base.specs.values.Limits.{max_packet_number};
 ghost use Rattle.qa_convert.specs.Losing.{ArePacketNumbers, IsSpan, has_number, is_bare, is_in};
 ghost use Rattle.qa_convert.specs.Losing.{pushed};
-ghost use Rattle.qa_convert.specs.Telling.{told_in};
+ghost use Rattle.qa_convert.specs.Telling.{nothing, told_in};
 
 use crate::bare::Bare;
 use crate::event::At;
@@ -67,7 +67,9 @@ pub(crate) struct Writing {
 
 impl Writing {
     /// Before the first line. Takes no memory.
-    pub(crate) fn new(alloc: Global, unit: TimeUnit, has_places: bool) -> Writing {
+    pub(crate) fn new(alloc: Global, unit: TimeUnit, has_places: bool) -> Writing
+        ensures { told_in result ≡ nothing }
+    {
         Writing {
             alloc,
             output: Output::new(alloc, unit, has_places),
@@ -100,7 +102,9 @@ impl Writing {
     }
 
     /// Finds that no probe timeout shows, and how late timers may be in microseconds.
-    pub(crate) fn find_unseen(&mut self, limit: u64) -> Result<(), AllocError> {
+    pub(crate) fn find_unseen(&mut self, limit: u64) -> Result<(), AllocError>
+        ensures { OnOk result (told_in self.new ≡ told_in self.old) }
+    {
         let text = format!(in self.alloc;
             "no probe timeouts; of one that does not show, the next \
             one is late, so timers may be {limit} microseconds late"
@@ -111,7 +115,9 @@ impl Writing {
 
     /// Finds that a clock of whole milliseconds is off by so many timeouts in a row, and how late
     /// timers may be in microseconds.
-    pub(crate) fn find_off(&mut self, count: u64, limit: u64) -> Result<(), AllocError> {
+    pub(crate) fn find_off(&mut self, count: u64, limit: u64) -> Result<(), AllocError>
+        ensures { OnOk result (told_in self.new ≡ told_in self.old) }
+    {
         let text = format!(in self.alloc;
             "whole milliseconds, and {count} probe timeouts in a \
             row, each of which doubles by how much the deadline is off, so timers may be {limit} \

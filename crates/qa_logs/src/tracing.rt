@@ -45,7 +45,7 @@ impl Model for Trace {
 
     ghost Value = { Told };
 
-    ghost view = { λ t. (t.has_header, t.records.second) };
+    ghost view = { λ t. (t.has_header, (t.records.second.0, t.records.second.1)) };
 }
 
 impl Trace {

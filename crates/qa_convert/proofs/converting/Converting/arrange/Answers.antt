@@ -6,8 +6,8 @@ both_ok : {T E P Q R : Type 0} (r : Result T E) → OnOk r P → OnOk r Q → (P
 both_ok (Ok x) p q f = f p q
 both_ok (Err e) p q f = tt
 
-pub returns : goal.returns
-returns c =
+pub returns-clause-passes : goal.returns-clause-passes
+returns-clause-passes c =
     let queued = c.in_ok-queue.ensures in
     let grouped = c.in_ok-group.ensures in
     let ordered = c.queue.new.self.events.items in

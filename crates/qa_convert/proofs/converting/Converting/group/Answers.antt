@@ -13,5 +13,8 @@ loop-event-preserved c =
       all = append_assoc now.done (e ∷ []) rest ∙ ap (λ es. now.done ++ es) (sym items) ∙ now.all;
       gathers = gathers_then _ _ _ now.done (e ∷ []) _ _ _ now.gathers c.in_ok-push.ensures;
       order = now.order;
+      head = now.head;
+      cursor = now.cursor;
+      retry = now.retry;
       conversion = now.conversion;
     }

@@ -9,6 +9,9 @@ invariant-loop-event l = record {
   all : done ++ l.self.events.items ≡ l.initial.self.events.items;
   gathers : Gathers l.initial.self.groups done l.self.groups l.initial.self.ready.items l.self.ready.items;
   order : l.self.order ≡ l.initial.self.order;
+  head : l.self.head ≡ l.initial.self.head;
+  cursor : l.self.cursor ≡ l.initial.self.cursor;
+  retry : l.self.retry ≡ l.initial.self.retry;
   conversion : l.self.conversion ≡ l.initial.self.conversion;
 }
 

@@ -2,8 +2,8 @@ use Rattle.std.proofs.Common.{◌∙◌, sym}
 use Rattle.qa_convert.proofs.Passed.{passes_left_out}
 use Rattle.qa_convert.proofs.converting.Converting.pass.Goals as goal
 
-pub returns-then-branch : goal.returns-then-branch
-returns-then-branch c =
+pub returns-then-branch-clause-passes : goal.returns-then-branch-clause-passes
+returns-then-branch-clause-passes c =
     let w = c.args.self.now in
     let left = c.in_ok-leaves_out.ensures in
     rw (left.order, left.groups, left.events, left.ready)

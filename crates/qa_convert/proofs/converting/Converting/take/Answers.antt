@@ -1,0 +1,43 @@
+use Rattle.std.proofs.Common.{◌≡◌, inl, [], refl, subst}
+use Rattle.std.proofs.lemmas.Result.{on_ok_weaker}
+use Rattle.qa_qlog.specs.Records.{data_of}
+use Rattle.qa_convert.proofs.Goes.{goes_none}
+use Rattle.qa_convert.proofs.Read.{says_none}
+use Rattle.qa_convert.specs.Reading.{at_of, clock_after, events_at, name_of, next_index}
+use Rattle.qa_convert.specs.Taking.{Goes, progress_of, told_of}
+use Rattle.qa_convert.specs.declared.event.At.{At}
+use Rattle.qa_convert.proofs.converting.Converting.take.Goals as goal
+
+pub returns-in-Some : goal.returns-in-Some
+returns-in-Some c j begins =
+    let old = c.args.self.now in
+    let new = c.take_event.new.self in
+    let reads = rw c.in-Some.is at (c.in_ok-named.ensures j begins) in
+    let finds = reads.finds in
+    on_ok_weaker c.take_event.result
+    (λ given. record {
+      event = reads.event;
+      says = reads.says;
+      index = let index : new.cursor.index ≡ next_index old.cursor.index = rw c.take_event.ensures.cursor reads.index in index;
+      clock = let clock : new.cursor.clock ≡ clock_after old.cursor.clock reads.event = rw c.take_event.ensures.cursor reads.clock in clock;
+      all = given.0;
+      are = rw finds.0 (inl given.1);
+      goes =
+          let goes : Goes (events_at c.in-Some.named.at given.0) (progress_of old) (told_of old) (progress_of new) (told_of new) = record { head = given.2.head; retry = given.2.retry; passes = given.2.passes } in
+          subst (λ (at : At). Goes (events_at at given.0) (progress_of old) (told_of old) (progress_of new) (told_of new)) finds.1 goes;
+    })
+    (c.take_event.ensures.goes (data_of old.head.fields j) finds.2)
+
+pub returns-in-None : goal.returns-in-None
+returns-in-None c j begins =
+    let old = c.args.self.now in
+    let reads = rw c.in-None.is at (c.in_ok-named.ensures j begins) in
+    record {
+      event = reads.event;
+      says = reads.says;
+      index = reads.index;
+      clock = reads.clock;
+      all = [];
+      are = says_none old.head j (at_of c.args.place old.cursor.index old.cursor.clock reads.event) (name_of reads.event) reads.finds;
+      goes = goes_none (progress_of old) (progress_of (record old { cursor = c.next.new.self })) (told_of old) (told_of old) refl refl refl refl refl refl;
+    }

@@ -1,0 +1,10 @@
+use Rattle.std.proofs.Common.{◌≡◌, ◌∙◌, [], ap, refl}
+use Rattle.qa_convert.specs.Telling.{nothing, told}
+use Rattle.qa_convert.proofs.writing.Writing.new.Goals as goal
+
+nothing_told : told [] ≡ nothing
+unfolding told
+nothing_told = refl
+
+pub returns : goal.returns
+returns c = ap told c.new.ensures.text ∙ nothing_told
