@@ -4,6 +4,7 @@
 It wants a clang that has libFuzzer, as Debian's with libclang-rt-14-dev.
 """
 
+import argparse
 import subprocess
 import sys
 import tempfile
@@ -155,6 +156,22 @@ class Inputs(unittest.TestCase):
             self.assertEqual(self.program.call(command).hex(), wanted)
 
 
+class Processes(unittest.TestCase):
+    """How long a process goes on."""
+
+    def test_goes_on_though_nobody_reads_what_it_says(self) -> None:
+        folder = new_folder(self)
+        program = folder / "fuzz"
+        says = "yes | head -c 1000000 >&2\necho stat::number_of_executed_units: 7 >&2\n"
+        program.write_text(f"#!/bin/sh\n{says}")
+        program.chmod(0o755)
+        script_of = script(PROGRAM)
+        given = argparse.Namespace(minutes=1, inputs=0, folder=folder)
+        running = script_of.started(program, given, 1)
+        running.process.wait(timeout=60)
+        self.assertEqual(script_of.ended(running), (7, ""))
+
+
 @unittest.skipIf(NO_CLANG, NO_CLANG)
 class Findings(unittest.TestCase):
     """What is found, and what is not."""
@@ -165,7 +182,7 @@ class Findings(unittest.TestCase):
         library = made(folder, wrong)
         command = [sys.executable, PROGRAM, "--inputs", INPUTS, *words, library]
         ended = subprocess.run(
-            list(map(str, command)), capture_output=True, text=True, timeout=600, check=False
+            list(map(str, command)), capture_output=True, text=True, timeout=50, check=False
         )
         self.assertEqual(ended.stderr, "")
         return ended.returncode, ended.stdout
