@@ -182,7 +182,7 @@ class Findings(unittest.TestCase):
         library = made(folder, wrong)
         command = [sys.executable, PROGRAM, "--inputs", INPUTS, *words, library]
         ended = subprocess.run(
-            list(map(str, command)), capture_output=True, text=True, timeout=50, check=False
+            list(map(str, command)), capture_output=True, text=True, timeout=600, check=False
         )
         self.assertEqual(ended.stderr, "")
         return ended.returncode, ended.stdout
