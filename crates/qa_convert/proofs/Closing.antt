@@ -4,7 +4,7 @@ use Rattle.std.specs.List.{list_all, list_any}
 use Rattle.std.specs.Prelude.{◌&&◌, ◌||◌}
 use Rattle.std.proofs.lemmas.List.{map-append}
 use Rattle.qa_convert.specs.Gathering.{HasEnded, IsCut, IsLeft, IsOfKept, IsOfPackets, IsSingle, begins_with_close, is_single}
-use Rattle.qa_convert.specs.Groups.{EndWithClose, IsGroup, UpToClose, begin_closing, closes, events_about, events_of, is_beside, is_by_peer, is_by_sender, is_of_sent, is_report, lost, received, sends_close, sent}
+use Rattle.qa_convert.specs.Groups.{EndWithClose, IsGroup, UpToClose, begin_closing, closes, events_about, events_of, has_some, is_beside, is_by_peer, is_by_sender, is_of_sent, is_report, lost, received, sends_close, sent}
 use Rattle.qa_convert.specs.declared.event.LoggedEvent.{LoggedEvent}
 use Rattle.qa_convert.specs.declared.groups.About.{About}
 use Rattle.qa_convert.specs.declared.groups.About.TheVariants as about
@@ -69,22 +69,23 @@ packets_tell first (about.Lost ls) beside packets is none = absurd is
 packets_tell first (about.Expired at timer) beside packets is none = absurd is
 packets_tell first (about.Other e) beside packets is none = absurd is
 
-packets_ended : (a : About) (beside : List LoggedEvent) (packets : List PacketAt) → IsOfPackets packets a → beside ≡ [] → any_closes packets ≡ false → HasEnded true a beside
-packets_ended (about.Sent ps) beside packets is none unclosed = record {
-  place = record { about = refl; beside = rw none refl };
+packets_ended : (a : About) (beside : List LoggedEvent) (packets : List PacketAt) → IsOfPackets packets a → beside ≡ [] → has_some packets ≡ true → any_closes packets ≡ false
+    → HasEnded true a beside
+packets_ended (about.Sent ps) beside packets is none some unclosed = record {
+  place = record { about = rw is some; beside = rw none refl };
   unsent = rw is unclosed;
   unclosed = λ no. refl;
 }
-packets_ended (about.Received p ls) beside packets is none unclosed = absurd is
-packets_ended (about.Lost ls) beside packets is none unclosed = absurd is
-packets_ended (about.Expired at timer) beside packets is none unclosed = absurd is
-packets_ended (about.Other e) beside packets is none unclosed = absurd is
+packets_ended (about.Received p ls) beside packets is none some unclosed = absurd is
+packets_ended (about.Lost ls) beside packets is none some unclosed = absurd is
+packets_ended (about.Expired at timer) beside packets is none some unclosed = absurd is
+packets_ended (about.Other e) beside packets is none some unclosed = absurd is
 
 kept_left : (first : Bool) (es : List LoggedEvent) (packets : List PacketAt) (left : Option Group) → IsOfKept packets left → any_closes packets ≡ false
     → UpToClose first es (map sent packets) → IsLeft first es left
 kept_left first es packets None is unclosed up = record { last = tt; kept = rw is at up }
 kept_left first es packets (Some g) is unclosed up = record {
-  last = packets_ended g.about g.beside.items packets is.0 is.1 unclosed;
+  last = packets_ended g.about g.beside.items packets is.0 is.1 is.2 unclosed;
   kept = rw (packets_tell first g.about g.beside.items packets is.0 is.1) up;
 }
 

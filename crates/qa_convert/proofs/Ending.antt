@@ -6,25 +6,16 @@ use Rattle.std.proofs.lemmas.Grind.{flat_map-append}
 use Rattle.qa_convert.proofs.Gathered.{told_last}
 use Rattle.qa_convert.proofs.Grouped.{all_append}
 use Rattle.qa_convert.specs.Gathering.{HandsLast, IsLast, IsSure, Leaves, kept_events, told_by}
-use Rattle.qa_convert.specs.Groups.{Ends, Gathers, Held, IsGroup, Keeps, KeepsAtEnd, closes, events, events_about, events_of, is_by_peer, is_by_sender, is_in_place, is_of_sent, sure}
+use Rattle.qa_convert.specs.Groups.{CloseLast, Ends, Gathers, Held, IsGroup, Keeps, KeepsAtEnd, closes, events, events_about, events_of, is_by_peer, is_by_sender, is_in_place, is_of_sent, sure}
 use Rattle.qa_convert.specs.declared.event.LoggedEvent.{LoggedEvent}
-use Rattle.qa_convert.specs.declared.groups.About.{About}
-use Rattle.qa_convert.specs.declared.groups.About.TheVariants as about
 use Rattle.qa_convert.specs.declared.groups.Group.{Group}
 use Rattle.qa_convert.specs.declared.groups.Open.{Open}
 
 -- ---- the last group
 
-sent_place : (a : About) → is_of_sent a ≡ true → is_in_place a ≡ true
-sent_place (about.Sent ps) is = refl
-sent_place (about.Received p ls) is = cc
-sent_place (about.Lost ls) is = cc
-sent_place (about.Expired at timer) is = cc
-sent_place (about.Other e) is = cc
-
-sure_groups : (g : Group) (left : Option Group) → IsSure g left → AllByRecursion IsGroup (option_to_list left)
-sure_groups g None is = tt
-sure_groups g (Some k) is = (record { about = rw is.1 (sent_place g.about is.0); beside = rw is.2 refl }, tt)
+sure_groups : (g : Group) (left : Option Group) → is_in_place g.about ≡ true → IsSure g left → AllByRecursion IsGroup (option_to_list left)
+sure_groups g None place is = tt
+sure_groups g (Some k) place is = (record { about = rw is.1 place; beside = rw is.2 refl }, tt)
 
 left_groups : (torn closed : Bool) (last left : Option Group) → IfSome last (IsLast closed) → Leaves torn closed last left → AllByRecursion IsGroup (option_to_list left)
 left_groups false closed None left last is = rw is tt
@@ -32,18 +23,17 @@ left_groups false closed (Some g) left last is = rw is (last.place, tt)
 left_groups true true None left last is = rw is tt
 left_groups true true (Some g) left last is = rw is (last.place, tt)
 left_groups true false None left last is = rw is tt
-left_groups true false (Some g) left last is = sure_groups g left is
+left_groups true false (Some g) left last is = sure_groups g left last.place.about is
 
-sure_unsent : (g : Group) (left : Option Group) → is_by_sender g.about ≡ false → IsSure g left → AllByRecursion (λ (k : Group). is_by_sender k.about ≡ false) (option_to_list left)
+sure_unsent : (g : Group) (left : Option Group) → is_by_sender g.about ≡ false → IsSure g left → CloseLast (option_to_list left)
 sure_unsent g None unsent is = tt
-sure_unsent g (Some k) unsent is = (rw is.1 unsent, tt)
+sure_unsent g (Some k) unsent is = rw is.1 unsent
 
-left_unsent : (torn closed : Bool) (last left : Option Group) → IfSome last (IsLast closed) → Leaves torn closed last left
-    → AllByRecursion (λ (k : Group). is_by_sender k.about ≡ false) (option_to_list left)
+left_unsent : (torn closed : Bool) (last left : Option Group) → IfSome last (IsLast closed) → Leaves torn closed last left → CloseLast (option_to_list left)
 left_unsent false closed None left last is = rw is tt
-left_unsent false closed (Some g) left last is = rw is (last.unsent, tt)
+left_unsent false closed (Some g) left last is = rw is last.unsent
 left_unsent true true None left last is = rw is tt
-left_unsent true true (Some g) left last is = rw is (last.unsent, tt)
+left_unsent true true (Some g) left last is = rw is last.unsent
 left_unsent true false None left last is = rw is tt
 left_unsent true false (Some g) left last is = sure_unsent g left last.unsent is
 
@@ -51,9 +41,11 @@ left_of_or : (a b : Bool) → (a || b) ≡ false → a ≡ false
 left_of_or true b is = is
 left_of_or false b is = refl
 
-all_unsent : (gs : List Group) → AllByRecursion (λ (g : Group). closes g ≡ false) gs → AllByRecursion (λ (g : Group). is_by_sender g.about ≡ false) gs
-all_unsent [] all = tt
-all_unsent (g ∷ gs) all = (left_of_or (is_by_sender g.about) (is_by_peer g.about) all.0, all_unsent gs all.1)
+close_last : (gs : List Group) (left : Option Group) → AllByRecursion (λ (g : Group). closes g ≡ false) gs → CloseLast (option_to_list left) → CloseLast (gs ++ option_to_list left)
+close_last [] left all last = last
+close_last (g ∷ []) None all last = left_of_or (is_by_sender g.about) (is_by_peer g.about) all.0
+close_last (g ∷ []) (Some k) all last = (all.0, last)
+close_last (g ∷ h ∷ gs) left all last = (all.0, close_last (h ∷ gs) left all.1 last)
 
 -- ---- what is kept
 
@@ -115,8 +107,7 @@ ends_all torn old first c last begun report out mid end none report_is gathers l
       ended = gathers.ended ++ option_to_list hands.left;
       handed = hands.handed ∙ ap (λ gs. gs ++ option_to_list hands.left) gathers.handed ∙ append_assoc out gathers.ended (option_to_list hands.left);
       groups = all_append IsGroup gathers.ended (option_to_list hands.left) gathers.groups (left_groups torn c last hands.left last_is hands.is);
-      unsent = all_append (λ (g : Group). is_by_sender g.about ≡ false) gathers.ended (option_to_list hands.left) (all_unsent gathers.ended gathers.unclosed)
-          (left_unsent torn c last hands.left last_is hands.is);
+      closing = close_last gathers.ended hands.left gathers.unclosed (left_unsent torn c last hands.left last_is hands.is);
       kept = rw (← gathers.order, flat_map-append (events_of first) gathers.ended (option_to_list hands.left), told_last first hands.left)
           (keeps_end torn first old.is_closed c old.events (events first gathers.ended) last hands.left kept last_is hands.is ended);
     }

@@ -1,12 +1,14 @@
 -- That guesses can be written and read.
-use Rattle.std.proofs.Common.{◌≡◌, ◌∙◌, ◌≤◌, ◌<◌, ◌+◌, ℕ, List, [], ◌∷◌, ◌++◌, get_or, length, map, take, true, refl, sym, ap, arith}
+use Rattle.std.proofs.Common.{◌≡◌, ◌∙◌, ◌≤◌, ◌<◌, ◌+◌, ℕ, List, [], ◌∷◌, ◌++◌, ◌||◌, Bool, get_or, length, map, take, true, false, refl, sym, ap, arith}
 use Rattle.std.proofs.lemmas.Bool.Decides.{Decides-eqb}
 use Rattle.std.proofs.lemmas.List.{map-append, map_more}
+use Rattle.std.proofs.lemmas.List.Folds.{list_any-append}
+use Rattle.std.specs.Prelude.{if◌then◌else◌}
 use Rattle.serde_json.specs.Data.{Data, array, item, items_depth, no_members, string}
 use Rattle.serde_json.specs.View.{items_of}
 use Rattle.qa_format.specs.format.Simple.{AreSimple, IsKept, is_ascii}
 use Rattle.qa_convert.specs.OwnKeys.{AreOwn}
-use Rattle.qa_convert.specs.Outputs.{guessed}
+use Rattle.qa_convert.specs.Outputs.{guessed, has_guess, with_guess}
 use Rattle.qa_convert.specs.Guesses.{guess_number, guess_text, is_guess, texts_of}
 use Rattle.qa_convert.specs.declared.guess.Guess.{Guess}
 use Rattle.qa_convert.specs.declared.guess.Guess.TheVariants as guess
@@ -115,3 +117,24 @@ guess_of-number guess.TimeBack = refl
 pub same_guess : (g h : Guess) → is_guess g h ≡ true → g ≡ h
 same_guess g h is =
     sym (guess_of-number g) ∙ ap guess_of ((Decides-eqb (guess_number g) (guess_number h)).0 is) ∙ guess_of-number h
+
+-- ---- what is among guesses
+
+same_itself : (g : Guess) → is_guess g g ≡ true
+same_itself g = (Decides-eqb (guess_number g) (guess_number g)).1 refl
+
+there_by : (b : Bool) (g : Guess) (gs : List Guess) → has_guess g gs ≡ b → has_guess g (if b then gs else gs ++ g ∷ []) ≡ true
+there_by true g gs is = is
+there_by false g gs is =
+    list_any-append (is_guess g) gs (g ∷ []) ∙ ap (λ b. b || (is_guess g g || false)) is ∙ ap (λ b. b || false) (same_itself g)
+
+stays_by : (b : Bool) (h g : Guess) (gs : List Guess) → has_guess h gs ≡ true → has_guess h (if b then gs else gs ++ g ∷ []) ≡ true
+stays_by true h g gs has = has
+stays_by false h g gs has = list_any-append (is_guess h) gs (g ∷ []) ∙ ap (λ b. b || (is_guess h g || false)) has
+
+-- a guess that is added is there, and what was there stays
+pub guess_there : (g : Guess) (gs : List Guess) → has_guess g (with_guess g gs) ≡ true
+guess_there g gs = there_by (has_guess g gs) g gs refl
+
+pub guess_stays : (h g : Guess) (gs : List Guess) → has_guess h gs ≡ true → has_guess h (with_guess g gs) ≡ true
+guess_stays h g gs has = stays_by (has_guess g gs) h g gs has

@@ -9,6 +9,7 @@ pub mod GroupTold
 pub mod Grouped
 pub mod Guessed
 pub mod Losses
+pub mod Marked
 pub mod Named
 pub mod NoAcks
 pub mod OneLine

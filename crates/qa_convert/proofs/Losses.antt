@@ -449,9 +449,9 @@ told_once s n l ps same =
     let one : times_told s n (l ∷ []) ≡ cond (names s n l) 1 0 + 0 = sum_by-cons (λ (m : LostLine). cond (names s n m) 1 0) l [] in
     let few = one_few (names s n l) (times_lost s n ps) (λ is. some_among s n ps (sym same ∙ ap (λ b. b || false) is)) in omega (arith, one, few)
 
-line_if : (b : Bool) (time : ℕ) (space : Space) (ranges : List (ℕ × ℕ)) (ps : List LostPacket) (a b' : Told) → has_ranges ranges ≡ b → ((n : ℕ) → is_named ranges n ≡ is_among space n ps)
-    → b' ≡ cond b (with_event a (event.Lost time space ranges)) a → Names (in_space space ps) a b'
-line_if true time space ranges ps a b' has named told =
+line_if : (b guessed : Bool) (time : ℕ) (space : Space) (ranges : List (ℕ × ℕ)) (ps : List LostPacket) (a b' : Told) → has_ranges ranges ≡ b → ((n : ℕ) → is_named ranges n ≡ is_among space n ps)
+    → b' ≡ cond b (with_event a guessed (event.Lost time space ranges)) a → Names (in_space space ps) a b'
+line_if true guessed time space ranges ps a b' has named told =
     let line : LostLine = record { space = space; ranges = ranges } in
     let same : (s : Space) (n : ℕ) → is_told s n (line ∷ []) ≡ is_among s n (in_space space ps) = λ s n.
     with_space_of (is_space s space) (is_named ranges n) (is_among s n ps) (λ is. named n ∙ ap (λ t. is_among t n ps) (sym (same_spaces s space is)))
@@ -463,9 +463,9 @@ line_if true time space ranges ps a b' has named told =
       same = same;
       few = λ s n. told_once s n line (in_space space ps) (same s n);
     }
-line_if false time space ranges ps a b' has named told = space_none space ps a b' (λ n. sym (named n) ∙ named_none ranges n has) (ap (λ (t : Told). t.lost) told)
+line_if false guessed time space ranges ps a b' has named told = space_none space ps a b' (λ n. sym (named n) ∙ named_none ranges n has) (ap (λ (t : Told). t.lost) told)
 
 -- the line of a space, if there are ranges
-pub space_line : (time : ℕ) (space : Space) (ranges : List (ℕ × ℕ)) (ps : List LostPacket) (a b : Told) → ((n : ℕ) → is_named ranges n ≡ is_among space n ps)
-    → b ≡ with_fit a (event.Lost time space ranges) → Names (in_space space ps) a b
-space_line time space ranges ps a b named told = line_if (has_ranges ranges) time space ranges ps a b refl named told
+pub space_line : (guessed : Bool) (time : ℕ) (space : Space) (ranges : List (ℕ × ℕ)) (ps : List LostPacket) (a b : Told) → ((n : ℕ) → is_named ranges n ≡ is_among space n ps)
+    → b ≡ with_fit a guessed (event.Lost time space ranges) → Names (in_space space ps) a b
+space_line guessed time space ranges ps a b named told = line_if (has_ranges ranges) guessed time space ranges ps a b refl named told

@@ -1,5 +1,6 @@
 -- A line with keys behind its own that begin with `x_` is read as the line.
 use Rattle.std.proofs.Common.{◌≡◌, ◌∙◌, ℕ, ◌≤◌, ◌==◌, List, [], ◌∷◌, Bool, true, false, Option, Some, None, Result, Ok, Err, codes, Ordering, Less, Equal, Greater, refl, String, Global, sym, ap, ap₂, subst, arith}
+use Rattle.std.proofs.lemmas.Cmp.{nat_list_cmp_total, tied_itself}
 use Rattle.std.proofs.lemmas.Map.Text.{is_eq-slice_cmp}
 use Rattle.std.proofs.lemmas.Slice.Eq.{bytes_eq-Decides}
 use Rattle.std.specs.Cmp.Lexicographic.{slice_cmp}
@@ -96,13 +97,16 @@ own_does [] is = cc
 own_does (c ∷ []) is = cc
 own_does (c ∷ b ∷ cs) is = let first : c ≡ 120 = cc in ap (λ n. n == 120) first
 
-same_text : (k l : List ℕ) → slice_cmp nat_cmp k l ≡ Equal → k ≡ l
+pub same_text : (k l : List ℕ) → slice_cmp nat_cmp k l ≡ Equal → k ≡ l
 same_text k l e = (bytes_eq-Decides k l).0 (sym (is_eq-slice_cmp k l) ∙ ap is_eq e)
 
 apart : (k : Key) (j : List ℕ) → IsOwn j → slice_cmp nat_cmp (key_name k) j ≡ Equal → ⊥
 apart k j own e =
     let with_x : begins_with_x (key_name k) ≡ true = ap begins_with_x (same_text (key_name k) j e) ∙ own_does j own.0 in
     let without : begins_with_x (key_name k) ≡ false = no_key_does k in cc
+
+pub apart_from : (k : Key) (j : List ℕ) → IsOwn j → slice_cmp nat_cmp j (key_name k) ≡ Equal → ⊥
+apart_from k j own e = apart k j own (rw (same_text j (key_name k) e) (tied_itself nat_list_cmp_total (key_name k)))
 
 -- ---- what a key gives
 
@@ -115,7 +119,7 @@ alike_with_own ms no_members are k = refl
 alike_with_own ms (member j d own) are k =
     alike_with_own (put j d ms) own are.2 k ∙ get_put_other (key_name k) j d ms (apart k j are.0)
 
-put_all-followed : (found ms own : Members) → put_all found (followed ms own) ≡ put_all (put_all found ms) own
+pub put_all-followed : (found ms own : Members) → put_all found (followed ms own) ≡ put_all (put_all found ms) own
 put_all-followed found no_members own = refl
 put_all-followed found (member k d ms) own = put_all-followed (put k d found) ms own
 

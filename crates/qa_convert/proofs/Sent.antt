@@ -1,12 +1,11 @@
 -- Lines of packets that were sent.
-use Rattle.std.proofs.Common.{◌≡◌, ◌∙◌, ◌||◌, ℕ, zero, suc, Bool, true, false, List, [], ◌∷◌, ◌++◌, map, get_or, append-nil, append_assoc, refl, sym, ap, ap₂}
-use Rattle.std.proofs.lemmas.List.{map-append}
+use Rattle.std.proofs.Common.{◌≡◌, ◌∙◌, ◌||◌, ℕ, zero, suc, Bool, true, false, Option, Some, List, [], ◌∷◌, ◌++◌, get_or, append-nil, append_assoc, refl, sym, ap}
+use Rattle.std.proofs.lemmas.Bool.Decides.{Decides-eqb}
+use Rattle.std.specs.Prelude.{◌&&◌, nat_eq, not}
 use Rattle.std.proofs.Math.ListN.{set}
 use Rattle.qa_qlog.specs.Frames.{is_in_flight}
-use Rattle.qa_convert.specs.Sending.{AreOf, IsOf, line_of}
-use Rattle.qa_convert.specs.Telling.{AreLinesOf, IsLineOf, SentLine, Told, Writes, line_key, packet_key, sent_in, sized, with_sent, with_size}
-use Rattle.qa_convert.specs.declared.groups.About.{About}
-use Rattle.qa_convert.specs.declared.groups.About.TheVariants as about
+use Rattle.qa_convert.specs.Sending.{AreOf, AreWrittenOf, IsOf, IsWrittenOf, Wrote, line_of}
+use Rattle.qa_convert.specs.Telling.{AreLinesOf, IsLineOf, SentLine, Told, sized, with_sent, with_size}
 use Rattle.qa_convert.specs.declared.groups.PacketAt.{PacketAt}
 use Rattle.qa_convert.specs.declared.packet.LoggedPacket.{LoggedPacket}
 use Rattle.qa_convert.specs.declared.sending.Outgoing.{Outgoing}
@@ -15,19 +14,57 @@ or_none : (b : Bool) → (b || false) ≡ b
 or_none true = refl
 or_none false = refl
 
-line_is : (s g : Bool) (p : LoggedPacket) (o : Outgoing) → IsOf s g p o → IsLineOf s g p (line_of o)
-line_is s g p o is = record {
-  space = ap (λ (q : LoggedPacket). q.space) is.packet;
-  number = ap (λ (q : LoggedPacket). q.number) is.packet;
-  eliciting = ap (λ (q : LoggedPacket). q.content.is_eliciting) is.packet;
-  size = λ e. is.size e;
-  in_flight = λ e. ap (λ b. is_in_flight o.packet.content || b) (is.padded e) ∙ or_none (is_in_flight o.packet.content) ∙ ap (λ (q : LoggedPacket). is_in_flight q.content) is.packet;
+some_same : (m n : ℕ) → Some m ≡ Some n → m ≡ n
+some_same m n e = cc
+
+line_is : (s g : Bool) (p : LoggedPacket) (o : Outgoing) (l : SentLine) → IsOf s g p o → IsWrittenOf o l → IsLineOf s g p l
+line_is s g p o l is written = record {
+  space = ap (λ (m : SentLine). m.space) written.line ∙ ap (λ (q : LoggedPacket). q.space) is.packet;
+  number = ap (λ (m : SentLine). m.number) written.line ∙ ap (λ (q : LoggedPacket). q.number) is.packet;
+  eliciting = ap (λ (m : SentLine). m.eliciting) written.line ∙ ap (λ (q : LoggedPacket). q.content.is_eliciting) is.packet;
+  size = λ e. ap (λ (m : SentLine). Some m.size) written.line ∙ is.size e;
+  in_flight = λ e. ap (λ (m : SentLine). m.in_flight) written.line
+      ∙ ap (λ b. is_in_flight o.packet.content || b) (is.padded e) ∙ or_none (is_in_flight o.packet.content) ∙ ap (λ (q : LoggedPacket). is_in_flight q.content) is.packet;
+  guess = λ e known same. written.guess (is.guess e known (sym (ap (λ (m : SentLine). Some m.size) written.line) ∙ same));
 }
 
-pub lines_are : (s g : Bool) (ps : List LoggedPacket) (os : List Outgoing) → AreOf s g ps os → AreLinesOf s g ps (map line_of os)
-lines_are s g [] os are = ap (map line_of) are
-lines_are s g (p ∷ ps) [] are = absurd are
-lines_are s g (p ∷ ps) (o ∷ os) are = (line_is s g p o are.0, lines_are s g ps os are.1)
+none_written : (ls : List SentLine) (os : List Outgoing) → os ≡ [] → AreWrittenOf os ls → ls ≡ []
+none_written ls [] none written = written
+none_written ls (o ∷ os) none written = cc
+
+pub lines_are : (s g : Bool) (ps : List LoggedPacket) (os : List Outgoing) (ls : List SentLine) → AreOf s g ps os → AreWrittenOf os ls → AreLinesOf s g ps ls
+lines_are s g [] os ls are written = none_written ls os are written
+lines_are s g (p ∷ ps) [] ls are written = absurd are
+lines_are s g (p ∷ ps) (o ∷ os) [] are written = absurd written
+lines_are s g (p ∷ ps) (o ∷ os) (l ∷ ls) are written = (line_is s g p o l are.0 written.0, lines_are s g ps os ls are.1 written.1)
+
+must_settle : (g b : Bool) → (g ≡ false → b ≡ true) → (g || b) ≡ false → ⊥
+must_settle true b known e = cc
+must_settle false b known e = let is : b ≡ true = known refl in cc
+
+other_size : (m n : ℕ) (s : Option ℕ) → nat_eq m n ≡ false → Some m ≡ s → Some n ≡ s → ⊥
+other_size m n s differ first second =
+    let same : m ≡ n = some_same m n (first ∙ sym second) in
+    let alike : nat_eq m n ≡ true = (Decides-eqb m n).1 same in cc
+
+pub was_guessed : (g b : Bool) → (not g && not b) ≡ false → g ≡ false → b ≡ true
+was_guessed true b e none = cc
+was_guessed false true e none = refl
+was_guessed false false e none = cc
+
+-- a packet whose size the growth has shown: if others are not taken by it, it was a guess
+pub grown_is : (g : Bool) (p : LoggedPacket) (old new : Outgoing) → IsOf true g p old → (g ≡ false → old.is_size_guessed ≡ true) → new.packet ≡ old.packet
+    → new.is_size_guessed ≡ false → nat_eq new.size old.size ≡ false → IsOf true g p new
+grown_is g p old new is guessed packet settled differ =
+    let may : (g || p.is_size_guessed) ≡ false → ⊥ = must_settle g p.is_size_guessed (λ e. is.guessed (guessed e)) in
+    record {
+      packet = packet ∙ is.packet;
+      guessed = λ e. cc;
+      size = λ e. absurd (may e);
+      padded = λ e. absurd (may e);
+      unsettled = λ e known. cc;
+      guess = λ e known same. absurd (other_size new.size old.size p.size differ same (is.unsettled e (guessed e)));
+    }
 
 pub set_are : (s g : Bool) (ps : List LoggedPacket) (os : List Outgoing) (i : ℕ) (d new : Outgoing) → AreOf s g ps os
     → ((p : LoggedPacket) → IsOf s g p (get_or os i d) → IsOf s g p new) → AreOf s g ps (set os i new)
@@ -42,27 +79,33 @@ more_sent t ls more = ap (λ (all : List SentLine). record t { sent = all }) (ap
 pub none_sent : (t : Told) → t ≡ with_sent t []
 none_sent t = ap (λ (all : List SentLine). record t { sent = all }) (sym (append-nil t.sent))
 
+-- ---- lines that were written
+
+written_and : (os more : List Outgoing) (ls ms : List SentLine) → AreWrittenOf os ls → AreWrittenOf more ms → AreWrittenOf (os ++ more) (ls ++ ms)
+written_and [] more ls ms first second = rw first second
+written_and (o ∷ os) more [] ms first second = absurd first
+written_and (o ∷ os) more (l ∷ ls) ms first second = (first.0, written_and os more ls ms first.1 second)
+
+pub wrote_none : (t : Told) → Wrote [] t t
+wrote_none t = record { lines = []; are = refl; told = none_sent t }
+
+pub wrote_more : (os more : List Outgoing) (a b c : Told) → Wrote os a b → Wrote more b c → Wrote (os ++ more) a c
+wrote_more os more a b c first second = record {
+  lines = first.lines ++ second.lines;
+  are = written_and os more first.lines second.lines first.are second.are;
+  told = second.told ∙ ap (λ t. with_sent t second.lines) first.told ∙ more_sent a first.lines second.lines;
+}
+
+pub wrote_one : (o : Outgoing) (says : Bool) (a b : Told) → b ≡ with_sent a (line_of o says ∷ []) → (o.is_size_guessed ≡ true → says ≡ true) → Wrote (o ∷ []) a b
+wrote_one o says a b is guess = record { lines = line_of o says ∷ []; are = (record { line = refl; guess = guess }, refl); told = is }
+
 -- ---- groups
 
-key_is : (s g : Bool) (p : LoggedPacket) (l : SentLine) → IsLineOf s g p l → line_key l ≡ packet_key p
-key_is s g p l is = rw (is.space, is.number, is.eliciting) refl
-
-keys_are : (s g : Bool) (ps : List LoggedPacket) (ls : List SentLine) → AreLinesOf s g ps ls → map line_key ls ≡ map packet_key ps
-keys_are s g [] ls are = ap (map line_key) are
-keys_are s g (p ∷ ps) [] are = absurd are
-keys_are s g (p ∷ ps) (l ∷ ls) are = ap₂ (λ k ks. k ∷ ks) (key_is s g p l are.0) (keys_are s g ps ls are.1)
+pub lines_then : (s g : Bool) (ps qs : List LoggedPacket) (ls ms : List SentLine) → AreLinesOf s g ps ls → AreLinesOf s g qs ms → AreLinesOf s g (ps ++ qs) (ls ++ ms)
+lines_then s g [] qs ls ms none are = rw none are
+lines_then s g (p ∷ ps) qs [] ms wrong are = absurd wrong
+lines_then s g (p ∷ ps) qs (l ∷ ls) ms all are = (all.0, lines_then s g ps qs ls ms all.1 are)
 
 pub sized_and : (ps qs : List PacketAt) → sized (ps ++ qs) ≡ sized ps ++ sized qs
 sized_and [] qs = refl
 sized_and (p ∷ ps) qs = ap (λ rest. with_size p p.packet.size ++ rest) (sized_and ps qs) ∙ sym (append_assoc (with_size p p.packet.size) (sized ps) (sized qs))
-
--- one group more
-pub group_told : (s g : Bool) (what : About) (before after : Told) (rest : List PacketAt) → Writes s g what before after
-    → map line_key after.sent ++ map packet_key (sized rest) ≡ map line_key before.sent ++ map packet_key (sized (sent_in what ++ rest))
-group_told s g (about.Sent ps) before after rest writes =
-    rw (writes.told, map-append line_key before.sent writes.lines, keys_are s g (sized ps.items) writes.lines writes.are, sized_and ps.items rest, map-append packet_key (sized ps.items) (sized rest))
-    (append_assoc (map line_key before.sent) (map packet_key (sized ps.items)) (map packet_key (sized rest)))
-group_told s g (about.Received p ls) before after rest writes = rw writes refl
-group_told s g (about.Lost ls) before after rest writes = rw writes.0 refl
-group_told s g (about.Expired at timer) before after rest writes = rw writes.0 refl
-group_told s g (about.Other e) before after rest writes = rw writes refl

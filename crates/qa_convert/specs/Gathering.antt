@@ -3,8 +3,8 @@ use Rattle.std.specs.Prelude.{◌≡◌, ◌++◌, ◌&&◌, ◌||◌, Bool, tru
 use Rattle.std.specs.Prelude.{Option, Some, None, IfSome, option_to_list}
 use Rattle.std.specs.List.{list_any}
 use Rattle.qa_convert.specs.Groups.{Gathers, Held, InPlace, IsGroup, UpToClose, events_about}
-use Rattle.qa_convert.specs.Groups.{events_of, is_by_peer, is_by_sender, is_in_place, is_of_sent}
-use Rattle.qa_convert.specs.Groups.{is_report}
+use Rattle.qa_convert.specs.Groups.{events_of, has_some, is_by_peer, is_by_sender, is_in_place}
+use Rattle.qa_convert.specs.Groups.{is_of_sent, is_report}
 use Rattle.qa_convert.specs.Orders.{is_lost, is_sent}
 use Rattle.qa_convert.specs.declared.dialects.Dialect.{Dialect}
 use Rattle.qa_convert.specs.declared.event.LoggedEvent.{LoggedEvent}
@@ -135,7 +135,8 @@ IsOfPackets packets _ = ⊥
 -- a group of packets that were sent, and of nothing beside them, if there are packets
 abbrev pub IsOfKept : List PacketAt → Option Group → Type 0
 IsOfKept packets None = packets ≡ []
-IsOfKept packets (Some g) = IsOfPackets packets g.about × (g.beside.items ≡ [])
+IsOfKept packets (Some g) =
+    IsOfPackets packets g.about × (g.beside.items ≡ []) × (has_some packets ≡ true)
 
 pub record IsCut (ps : List PacketAt) (left : Option Group) : Type 0 where
   pub kept : List PacketAt

@@ -1,10 +1,12 @@
 -- What the lines of groups tell: of packets that were sent, of acknowledgments that came, and of
 -- packets that were declared lost.
-use Rattle.std.specs.Prelude.{◌≡◌, ◌⊎◌, ◌++◌, ℕ, List, [], ◌∷◌, flat_map, map}
-use Rattle.qa_base.specs.declared.space.Space.{Space}
-use Rattle.qa_convert.specs.Acking.{acked_by, acks_in}
+use Rattle.std.specs.Prelude.{◌≡◌, ◌⊎◌, ◌++◌, List, [], ◌∷◌, flat_map}
+use Rattle.std.specs.List.{AllZip}
+use Rattle.qa_convert.specs.AckDelays.{IsLineOfAck, naming}
 use Rattle.qa_convert.specs.Losing.{NamesOnly, lost_in, packets_of}
-use Rattle.qa_convert.specs.Telling.{Told, line_key, packet_key, sent_of, sized}
+use Rattle.qa_convert.specs.Rules.{Rules}
+use Rattle.qa_convert.specs.Telling.{AckLine, AreLinesOf, SentLine, Told, sent_of, sized}
+use Rattle.qa_convert.specs.declared.decoding.Decoding.{Decoding}
 use Rattle.qa_convert.specs.declared.event.LostPacket.{LostPacket}
 use Rattle.qa_convert.specs.declared.groups.About.{About}
 use Rattle.qa_convert.specs.declared.groups.About.TheVariants as about
@@ -13,10 +15,12 @@ use Rattle.qa_convert.specs.declared.packet.LoggedPacket.{LoggedPacket}
 
 -- ---- packets that were sent
 
--- the lines tell of the packets that were sent, one for one and in their order, and of no others
-abbrev pub TellsSent : List Group → Told → Told → Type 0
-TellsSent gs before after =
-    map line_key after.sent ≡ map line_key before.sent ++ map packet_key (sized (sent_of gs))
+-- these lines were written of the packets that were sent, one for one and in their order, and no
+-- others
+abbrev pub TellsSent : Rules → List Group → Told → Told → Type 0
+TellsSent r gs before after =
+    (lines : List SentLine) × (after.sent ≡ before.sent ++ lines)
+    × AreLinesOf r.settles r.by_growth (sized (sent_of gs)) lines
 
 -- ---- acknowledgments that came
 
@@ -27,19 +31,20 @@ come_in _ = []
 abbrev pub come_of : List Group → List LoggedPacket
 come_of gs = flat_map (λ g. come_in g.about) gs
 
--- the spaces and ranges of the ACK frames of packets, in their order: of each packet all, or none,
--- since the keys of its space are gone by then
-abbrev pub AreAcked : List LoggedPacket → List (Space × List (ℕ × ℕ)) → Type 0
-AreAcked [] acks = acks ≡ []
-AreAcked (p ∷ ps) acks =
-    AreAcked ps acks
-    ⊎ ((more : List (Space × List (ℕ × ℕ))) × (acks ≡ acked_by p ++ more) × AreAcked ps more)
+-- the lines of the ACK frames of packets, in their order, each with the space, the ranges and the
+-- delay: of each packet those of all frames that name packets, or none, since the keys of its space
+-- are gone by then
+abbrev pub AreAcked : Decoding → List LoggedPacket → List AckLine → Type 0
+AreAcked d [] lines = lines ≡ []
+AreAcked d (p ∷ ps) lines =
+    AreAcked d ps lines
+    ⊎ ((first : List AckLine) × (more : List AckLine) × (lines ≡ first ++ more)
+    × AllZip (IsLineOfAck d p.space) (naming p.acks.items) first × AreAcked d ps more)
 
--- the lines tell of these, and of no others
-abbrev pub TellsAcks : List Group → Told → Told → Type 0
-TellsAcks gs before after =
-    (acks : List (Space × List (ℕ × ℕ))) × (acks_in after ≡ acks_in before ++ acks)
-    × AreAcked (come_of gs) acks
+-- these lines were written of acknowledgments, and no others
+abbrev pub TellsAcks : Decoding → List Group → Told → Told → Type 0
+TellsAcks d gs before after =
+    (lines : List AckLine) × (after.acks ≡ before.acks ++ lines) × AreAcked d (come_of gs) lines
 
 -- ---- packets that were declared lost
 
@@ -58,7 +63,7 @@ lost_of gs = flat_map lost_by gs
 
 -- ---- all of them
 
-pub record TellsOf (gs : List Group) (before after : Told) : Type 0 where
-  pub sent : TellsSent gs before after
-  pub acks : TellsAcks gs before after
+pub record TellsOf (r : Rules) (gs : List Group) (before after : Told) : Type 0 where
+  pub sent : TellsSent r gs before after
+  pub acks : TellsAcks r.decoding gs before after
   pub lost : NamesOnly (lost_of gs) before after

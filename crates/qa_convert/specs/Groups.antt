@@ -1,7 +1,7 @@
 -- Events in groups: what the groups say, one after another, is what the events said, in their
 -- order, up to the packet that closes the connection.
 use Rattle.std.specs.Prelude.{◌≡◌, ◌⊎◌, ◌++◌, ◌&&◌, ◌||◌, Bool, true, false, List, [], ◌∷◌}
-use Rattle.std.specs.Prelude.{if◌then◌else◌, flat_map, map}
+use Rattle.std.specs.Prelude.{if◌then◌else◌, flat_map, map, ⊤}
 use Rattle.std.specs.List.{AllByRecursion, list_all, list_any}
 use Rattle.qa_convert.specs.declared.event.LoggedEvent.{LoggedEvent}
 use Rattle.qa_convert.specs.declared.event.Said.{Said}
@@ -68,7 +68,15 @@ is_other (said.Lost l) = false
 is_other (said.Expired timer) = false
 is_other _ = true
 
+-- whether a list has an element
+abbrev pub has_some : {A : Type 0} → List A → Bool
+has_some [] = false
+has_some (x ∷ xs) = true
+
+-- a group is about one event at least
 abbrev pub is_in_place : About → Bool
+is_in_place (about.Sent ps) = has_some ps.items
+is_in_place (about.Lost ls) = has_some ls.items
 is_in_place (about.Other e) = is_other e.said
 is_in_place _ = true
 
@@ -157,6 +165,7 @@ pub record Gathers (old : Held) (more : List LoggedEvent) (new : Held) (out out'
 abbrev pub sure : Group → List LoggedEvent
 sure g = if is_of_sent g.about then events_about g.about else []
 
+-- a torn log leaves out what is not sure of the last group, which has an event at least
 pub record LeaveEnd (reports_first : Bool) (es kept : List LoggedEvent) : Type 0 where
   pub front : List LoggedEvent
   pub last : Group
@@ -171,11 +180,17 @@ KeepsAtEnd reports_first false false es kept = (kept ≡ es) ⊎ UpToClose repor
 KeepsAtEnd reports_first false true es kept =
     ((es ≡ []) × (kept ≡ [])) ⊎ (LeaveEnd reports_first es kept ⊎ UpToClose reports_first es kept)
 
--- all that is held is handed out, except the packet by which the sender closes
+-- no group closes but the last, and that one by a packet of the peer
+abbrev pub CloseLast : List Group → Type 0
+CloseLast [] = ⊤
+CloseLast (g ∷ []) = is_by_sender g.about ≡ false
+CloseLast (g ∷ h ∷ gs) = (closes g ≡ false) × CloseLast (h ∷ gs)
+
+-- all that is held is handed out, up to the packet that closes the connection
 pub record Ends (is_torn : Bool) (old : Held) (out out' : List Group) : Type 0 where
   pub ended : List Group
   pub handed : out' ≡ out ++ ended
   pub groups : AllByRecursion IsGroup ended
-  pub unsent : AllByRecursion (λ (g : Group). is_by_sender g.about ≡ false) ended
+  pub closing : CloseLast ended
   pub kept : KeepsAtEnd old.reports_first old.is_closed is_torn old.events
       (events old.reports_first ended)

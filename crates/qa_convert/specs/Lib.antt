@@ -7,6 +7,7 @@ pub mod GroupLines
 pub mod Groups
 pub mod Guesses
 pub mod Losing
+pub mod Marks
 pub mod Packets
 pub mod Orders
 pub mod Outputs
@@ -15,6 +16,7 @@ pub mod Passing
 pub mod Places
 pub mod Reading
 pub mod Rounding
+pub mod Rules
 pub mod Said
 pub mod Sending
 pub mod Taking

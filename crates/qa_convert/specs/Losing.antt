@@ -77,8 +77,8 @@ abbrev pub times_told : Space → ℕ → List LostLine → ℕ
 times_told s n ls = count_by (names s n) ls
 
 -- what is told once an event is, too, if a line can say it
-abbrev pub with_fit : Told → Event → Told
-with_fit t e = if fits e then with_event t e else t
+abbrev pub with_fit : Told → Bool → Event → Told
+with_fit t guessed e = if fits e then with_event t guessed e else t
 
 -- there are more lines of losses: they name these packets and no others, and none more often than
 -- it is among these

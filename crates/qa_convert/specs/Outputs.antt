@@ -21,6 +21,10 @@ in_unit Nanoseconds ns = ns
 abbrev pub with_guess : Guess → List Guess → List Guess
 with_guess g gs = if list_any (is_guess g) gs then gs else gs ++ g ∷ []
 
+-- this is among what was guessed
+abbrev pub has_guess : Guess → List Guess → Bool
+has_guess g gs = list_any (is_guess g) gs
+
 -- some guess is of a whole line, of which the log has no record
 abbrev pub are_of_line : List Guess → Bool
 are_of_line gs = list_any is_of_line gs

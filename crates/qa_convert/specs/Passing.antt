@@ -1,11 +1,12 @@
 -- Events on their way from the log to the lines: each joins those that wait for their order, and
 -- goes on into groups.
-use Rattle.std.specs.Prelude.{◌≡◌, ◌++◌, ◌||◌, ℕ, Bool, false, List, [], ◌∷◌, Option, Some}
+use Rattle.std.specs.Prelude.{◌++◌, ◌||◌, ℕ, Bool, false, List, [], ◌∷◌, Option, Some}
 use Rattle.std.specs.Prelude.{None, if◌then◌else◌, nat_le, nat_lt, unwrap_or}
 use Rattle.qa_base.specs.values.PerSpace.{of_space}
 use Rattle.qa_convert.specs.GroupLines.{TellsOf}
 use Rattle.qa_convert.specs.Groups.{Ends, Gathers, Held}
-use Rattle.qa_convert.specs.Orders.{Follows}
+use Rattle.qa_convert.specs.Orders.{Follows, LetsGo}
+use Rattle.qa_convert.specs.Rules.{Rules}
 use Rattle.qa_convert.specs.Telling.{Told}
 use Rattle.qa_convert.specs.declared.event.LoggedEvent.{LoggedEvent}
 use Rattle.qa_convert.specs.declared.event.Said.{Said}
@@ -48,24 +49,24 @@ waiting events order = events ++ unwrap_or order []
 
 -- more events come: they join those that wait, some of these go on into groups, and groups leave
 -- the queue in which they are handed out, to be written: the lines tell of them
-pub record Passes (waits : List LoggedEvent) (old : Held) (ready : List Group) (before : Told)
-    (more waits' : List LoggedEvent) (new : Held) (ready' : List Group) (after : Told)
-    : Type 0 where
+pub record Passes (r : Rules) (waits : List LoggedEvent) (old : Held) (ready : List Group)
+    (before : Told) (more waits' : List LoggedEvent) (new : Held) (ready' : List Group)
+    (after : Told) : Type 0 where
   pub ordered : List LoggedEvent
   pub follows : Follows waits more (ordered ++ waits')
   pub written : List Group
   pub gathers : Gathers old ordered new ready (written ++ ready')
-  pub told : TellsOf written before after
+  pub told : TellsOf r written before after
 
--- the log ends: the events that wait go on into groups, in their order unless the log is torn off,
--- and what is held is handed out: the lines tell of it
-pub record Closes (is_torn : Bool) (waits : List LoggedEvent) (old : Held) (ready : List Group)
-    (before after : Told) : Type 0 where
+-- the log ends: the events that wait go on into groups, and what is held is handed out: the lines
+-- tell of it
+pub record Closes (r : Rules) (is_torn : Bool) (waits : List LoggedEvent) (old : Held)
+    (ready : List Group) (before after : Told) : Type 0 where
   pub ordered : List LoggedEvent
-  pub follows : is_torn ≡ false → Follows waits [] ordered
+  pub let_go : LetsGo is_torn waits ordered
   pub held : Held
   pub gathered : List Group
   pub gathers : Gathers old ordered held ready gathered
   pub written : List Group
   pub ends : Ends is_torn held gathered written
-  pub told : TellsOf written before after
+  pub told : TellsOf r written before after

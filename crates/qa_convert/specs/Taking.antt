@@ -10,6 +10,7 @@ use Rattle.qa_convert.specs.Groups.{Held, at_start}
 use Rattle.qa_convert.specs.Passing.{Passes, counted, waiting}
 use Rattle.qa_convert.specs.Reading.{SaysOf, at_of, clock_after, clock_before, event_at}
 use Rattle.qa_convert.specs.Reading.{events_at, name_of, next_index}
+use Rattle.qa_convert.specs.Rules.{Rules, rules_of}
 use Rattle.qa_convert.specs.Telling.{Told, told_in}
 use Rattle.qa_convert.specs.declared.clock.Clock.{Clock}
 use Rattle.qa_convert.specs.declared.converting.Converting.{Converting}
@@ -22,8 +23,8 @@ use Rattle.qa_convert.specs.declared.place.Place.{Place}
 use Rattle.qa_convert.specs.declared.survey.Retry.{Retry}
 
 -- how far a log is read: its head, a Retry behind which its trace begins, the clock, the index of
--- the next record, the events that wait for their order, those that are held in groups, and the
--- groups that are not written
+-- the next record, the events that wait for their order, those that are held in groups, the groups
+-- that are not written, and what stays the same for the whole log
 pub record Progress : Type 0 where
   pub head : Head
   pub retry : Option Retry
@@ -32,6 +33,7 @@ pub record Progress : Type 0 where
   pub waits : List LoggedEvent
   pub held : Held
   pub ready : List Group
+  pub rules : Rules
 
 abbrev pub progress_of : Converting → Progress
 progress_of c = record {
@@ -42,6 +44,7 @@ progress_of c = record {
   waits = waiting c.events.items c.order;
   held = c.groups;
   ready = c.ready.items;
+  rules = rules_of c.conversion;
 }
 
 -- no record is read
@@ -63,8 +66,9 @@ pub record Goes (es : List LoggedEvent) (old : Progress) (before : Told) (new : 
     (after : Told) : Type 0 where
   pub head : new.head ≡ old.head
   pub retry : new.retry ≡ old.retry
-  pub passes : Passes old.waits old.held old.ready before (flat_map (counted old.retry) es)
-      new.waits new.held new.ready after
+  pub rules : new.rules ≡ old.rules
+  pub passes : Passes old.rules old.waits old.held old.ready before
+      (flat_map (counted old.retry) es) new.waits new.held new.ready after
 
 -- the record whose value is j was read, and the events that it says went on
 pub record Takes (j : Json) (place : Place) (old : Progress) (before : Told) (new : Progress)

@@ -1,31 +1,37 @@
 -- What lines tell of packets: a reader of traces reads the text that was written.
 use Rattle.std.specs.Prelude.{◌≡◌, ◌||◌, ◌&&◌, ℕ, Bool, false, List, [], ◌∷◌, ◌++◌, flat_map, map}
-use Rattle.std.specs.Prelude.{Result, Ok, Option, Some, None}
+use Rattle.std.specs.Prelude.{Result, Ok, Option, Some, None, true}
 use Rattle.std.specs.List.{fold}
 use Rattle.qa_base.specs.declared.event.Ack.{Ack}
 use Rattle.qa_base.specs.declared.event.Event.{Event}
 use Rattle.qa_base.specs.declared.event.Event.TheVariants as event
 use Rattle.qa_base.specs.declared.event.SentPacket.{SentPacket}
 use Rattle.qa_base.specs.declared.space.Space.{Space}
+use Rattle.qa_format.specs.declared.fault.Fault.{Fault}
 use Rattle.qa_format.specs.declared.line.Line.{Line}
 use Rattle.qa_format.specs.declared.line.Line.TheVariants as line
 use Rattle.qa_format.specs.format.Lines.{lines}
 use Rattle.qa_format.specs.format.Reading.{reading}
 use Rattle.qa_qlog.specs.Frames.{is_in_flight}
+use Rattle.qa_convert.specs.Marks.{says_guess}
+use Rattle.qa_convert.specs.Outputs.{has_guess}
 use Rattle.qa_convert.specs.declared.groups.About.{About}
 use Rattle.qa_convert.specs.declared.groups.About.TheVariants as about
 use Rattle.qa_convert.specs.declared.groups.Group.{Group}
 use Rattle.qa_convert.specs.declared.groups.PacketAt.{PacketAt}
+use Rattle.qa_convert.specs.declared.guess.Guess.{Guess}
+use Rattle.qa_convert.specs.declared.guess.Guess.TheVariants as a_guess
 use Rattle.qa_convert.specs.declared.packet.LoggedPacket.{LoggedPacket}
 use Rattle.qa_convert.specs.declared.writing.Writing.{Writing}
 
--- of a packet that was sent
+-- of a packet that was sent; the line may say that it has a guess for the size
 pub record SentLine : Type 0 where
   pub space : Space
   pub number : ℕ
   pub size : ℕ
   pub eliciting : Bool
   pub in_flight : Bool
+  pub is_size_guessed : Bool
 
 -- of an acknowledgment that came
 pub record AckLine : Type 0 where
@@ -47,37 +53,48 @@ pub record Told : Type 0 where
 abbrev pub nothing : Told
 nothing = record { sent = []; acks = []; lost = [] }
 
-abbrev pub sent_line : SentPacket → SentLine
-sent_line p = record {
+abbrev pub sent_line : Bool → SentPacket → SentLine
+sent_line is_size_guessed p = record {
   space = p.space;
   number = p.number;
   size = p.size;
   eliciting = p.eliciting;
   in_flight = p.in_flight;
+  is_size_guessed = is_size_guessed;
 }
 
 abbrev pub ack_line : Ack → AckLine
 ack_line a = record { space = a.space; ranges = a.ranges; delay = a.delay }
 
--- what is told once an event is, too: other events tell nothing of packets
-abbrev pub with_event : Told → Event → Told
-with_event t (event.Sent p) = record t { sent = t.sent ++ sent_line p ∷ [] }
-with_event t (event.Ack a) = record t { acks = t.acks ++ ack_line a ∷ [] }
-with_event t (event.Lost time space ranges) =
+-- what is told once an event is, too, whose line says or does not say that a size is a guess: other
+-- events tell nothing of packets
+abbrev pub with_event : Told → Bool → Event → Told
+with_event t guessed (event.Sent p) =
+    record t { sent = t.sent ++ sent_line guessed p ∷ [] }
+with_event t guessed (event.Ack a) = record t { acks = t.acks ++ ack_line a ∷ [] }
+with_event t guessed (event.Lost time space ranges) =
     record t { lost = t.lost ++ record { space = space; ranges = ranges } ∷ [] }
-with_event t _ = t
+with_event t guessed _ = t
 
-abbrev pub with_line : {Fault : Type 0} → Told → Result Line Fault → Told
-with_line t (Ok (line.Event e)) = with_event t e
+-- what the text of a line says, and whether it says that a size is a guess
+abbrev pub heard : List ℕ → Result Line Fault × Bool
+heard text = (reading text, says_guess a_guess.Size text)
+
+abbrev pub with_line : Told → Result Line Fault × Bool → Told
+with_line t (Ok (line.Event e), guessed) = with_event t guessed e
 with_line t _ = t
 
 -- what a reader of traces reads in a text, line after line
 unfoldable pub told : List ℕ → Told
-told text = fold with_line nothing (map reading (lines text))
+told text = fold with_line nothing (map heard (lines text))
 
 -- what was written tells
 abbrev pub told_in : Writing → Told
 told_in w = told w.output.text
+
+-- the next line says that this was guessed
+abbrev pub will_say : Writing → Guess → Bool
+will_say w g = has_guess g w.output.guesses.items
 
 -- ---- packets that were sent
 
@@ -99,13 +116,16 @@ abbrev pub may_settle : Bool → Bool → LoggedPacket → Bool
 may_settle settles by_growth p = settles && (by_growth || p.is_size_guessed)
 
 -- a line says of a packet what the log says; where the growth of the bytes in flight may show
--- another size, the size and whether the packet is in flight may be others
+-- another size, the size and whether the packet is in flight may be others; a line with a size that
+-- is a guess says so, unless all sizes are taken by that growth
 pub record IsLineOf (settles by_growth : Bool) (p : LoggedPacket) (l : SentLine) : Type 0 where
   pub space : l.space ≡ p.space
   pub number : l.number ≡ p.number
   pub eliciting : l.eliciting ≡ p.content.is_eliciting
   pub size : may_settle settles by_growth p ≡ false → Some l.size ≡ p.size
   pub in_flight : may_settle settles by_growth p ≡ false → l.in_flight ≡ is_in_flight p.content
+  pub guess : by_growth ≡ false → p.is_size_guessed ≡ true → Some l.size ≡ p.size
+      → l.is_size_guessed ≡ true
 
 -- the lines are those of the packets, one for one and in their order
 abbrev pub AreLinesOf : Bool → Bool → List LoggedPacket → List SentLine → Type 0
@@ -141,10 +161,3 @@ sent_in _ = []
 
 abbrev pub sent_of : List Group → List PacketAt
 sent_of gs = flat_map (λ g. sent_in g.about) gs
-
--- a packet without its size
-abbrev pub line_key : SentLine → Space × ℕ × Bool
-line_key l = (l.space, l.number, l.eliciting)
-
-abbrev pub packet_key : LoggedPacket → Space × ℕ × Bool
-packet_key p = (p.space, p.number, p.content.is_eliciting)

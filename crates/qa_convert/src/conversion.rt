@@ -3,6 +3,7 @@ ghost use Rattle.std.specs.Prelude.{◌≡◌, OnOk};
 ghost use Rattle.qa_convert.specs.AckDelays.{Answers, decoding_of};
 ghost use Rattle.qa_convert.specs.Acking.{Acknowledges};
 ghost use Rattle.qa_convert.specs.Losing.{Declares};
+ghost use Rattle.qa_convert.specs.Rules.{rules_of};
 ghost use Rattle.qa_convert.specs.Telling.{Writes, told_in};
 
 use crate::dialects::{Absent, Dialect, Limited};
@@ -163,6 +164,7 @@ impl Conversion {
             group.beside.items (told_in self.old.writing) (told_in self.new.writing)) }
         ensures delays { OnOk result (Answers (decoding_of self.old) group.about
             (told_in self.old.writing) (told_in self.new.writing)) }
+        ensures rules { OnOk result (rules_of self.new ≡ rules_of self.old) }
     {
         let Group { about, beside } = group;
         match about {
@@ -187,6 +189,7 @@ impl Conversion {
     /// Writes what an event says that is of no group.
     fn on_other(&mut self, event: &LoggedEvent) -> Result<(), NoLine>
         ensures told { OnOk result (told_in self.new.writing ≡ told_in self.old.writing) }
+        ensures rules { OnOk result (rules_of self.new ≡ rules_of self.old) }
     {
         match &event.said {
             Said::KeysCame(space) => self.keys.on_keys_came(&mut self.writing, event.at, *space),
@@ -210,6 +213,7 @@ impl Conversion {
     /// as it was.
     pub(crate) fn take_beside(&mut self, beside: &[LoggedEvent]) -> bool
         ensures writing { self.new.writing ≡ self.old.writing }
+        ensures rules { rules_of self.new ≡ rules_of self.old }
     {
         let window = self.values.bytes.window;
         let mut is_report = false;
@@ -223,6 +227,7 @@ impl Conversion {
     /// Takes what an event says; whether it is a report of more than a count of probe timeouts.
     fn take(&mut self, event: &LoggedEvent) -> bool
         ensures writing { self.new.writing ≡ self.old.writing }
+        ensures rules { rules_of self.new ≡ rules_of self.old }
     {
         match &event.said {
             Said::State(is_app_limited) => {
@@ -250,6 +255,7 @@ impl Conversion {
     /// Sees whether there was a sample, and whether the window fell.
     fn see_window(&mut self, before: Option<u64>)
         ensures writing { self.new.writing ≡ self.old.writing }
+        ensures rules { rules_of self.new ≡ rules_of self.old }
     {
         if self.values.rtts.min.unwrap_or(0) != 0 {
             self.has_sample = true;
@@ -264,6 +270,7 @@ impl Conversion {
     /// Bytes in flight that are left out although some left are 0, if 0 is left out.
     pub(crate) fn take_zero(&mut self)
         ensures writing { self.new.writing ≡ self.old.writing }
+        ensures rules { rules_of self.new ≡ rules_of self.old }
     {
         if self.terms.dialect.absent == Absent::SameOrZero {
             self.values = self.values.with_zero();
@@ -274,6 +281,7 @@ impl Conversion {
     pub(crate) fn report(&mut self, time: u64) -> Result<(), NoLine>
         ensures told { OnOk result (told_in self.new.writing ≡ told_in self.old.writing) }
         ensures bare { OnOk result (self.new.writing.bare ≡ self.old.writing.bare) }
+        ensures rules { OnOk result (rules_of self.new ≡ rules_of self.old) }
     {
         let known = if self.has_sample {
             self.values
@@ -292,6 +300,7 @@ impl Conversion {
     /// A log may tell of a change only behind the next packet, which is judged by it.
     pub(crate) fn tell_window(&mut self, time: u64) -> Result<(), NoLine>
         ensures told { OnOk result (told_in self.new.writing ≡ told_in self.old.writing) }
+        ensures rules { OnOk result (rules_of self.new ≡ rules_of self.old) }
     {
         let Some(window) = self.values.bytes.window else {
             return Ok(());
@@ -337,6 +346,7 @@ impl Conversion {
     /// Whether the sender had not used its window, by that before an acknowledgment.
     pub(crate) fn is_limited(&mut self, before: Option<u64>) -> Result<bool, AllocError>
         ensures told { OnOk result (told_in self.new.writing ≡ told_in self.old.writing) }
+        ensures rules { OnOk result (rules_of self.new ≡ rules_of self.old) }
     {
         match self.terms.dialect.limited {
             Limited::ByState => Ok(self.is_app_limited),
@@ -348,6 +358,7 @@ impl Conversion {
     /// Whether an acknowledgment left the window as it was.
     fn is_limited_by_window(&mut self, before: Option<u64>) -> Result<bool, AllocError>
         ensures told { OnOk result (told_in self.new.writing ≡ told_in self.old.writing) }
+        ensures rules { OnOk result (rules_of self.new ≡ rules_of self.old) }
     {
         if before.is_none() || self.values.bytes.window != before {
             return Ok(false);

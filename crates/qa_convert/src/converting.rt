@@ -5,10 +5,11 @@ ghost use Rattle.json.specs.Find.{BeginsWith, Finds};
 ghost use Rattle.qa_qlog.specs.Packets.{header_of};
 ghost use Rattle.qa_convert.specs.GroupLines.{TellsOf};
 ghost use Rattle.qa_convert.specs.Groups.{Gathers};
-ghost use Rattle.qa_convert.specs.Orders.{Follows};
+ghost use Rattle.qa_convert.specs.Orders.{Follows, LetsGo};
 ghost use Rattle.qa_convert.specs.Passing as passing;
 ghost use Rattle.qa_convert.specs.Passing.{Closes, Passes, counted, waiting};
 ghost use Rattle.qa_convert.specs.Reading.{GivesSize, SaysAll, SaysLosses, SaysSized, events_at};
+ghost use Rattle.qa_convert.specs.Rules.{rules_of};
 ghost use Rattle.qa_convert.specs.Taking.{Begins, Goes, Takes, TakesUnread, progress_of, told_of};
 ghost use Rattle.qa_convert.specs.Telling.{told_in};
 ghost use Rattle.qa_convert.specs.declared.event.Said.{Said as Kept};
@@ -225,10 +226,12 @@ impl Converting {
 
     /// Passes an event on, if it is behind a Retry, and no loss of what a probe only sends again.
     fn pass(&mut self, event: LoggedEvent) -> Result<(), NoLine>
-        ensures passes { OnOk result (Passes (waiting self.old.events.items self.old.order)
-            self.old.groups self.old.ready.items (told_in self.old.conversion.writing)
-            (counted self.old.retry event) (waiting self.new.events.items self.new.order)
-            self.new.groups self.new.ready.items (told_in self.new.conversion.writing)) }
+        ensures passes { OnOk result (Passes (rules_of self.old.conversion)
+            (waiting self.old.events.items self.old.order) self.old.groups self.old.ready.items
+            (told_in self.old.conversion.writing) (counted self.old.retry event)
+            (waiting self.new.events.items self.new.order) self.new.groups self.new.ready.items
+            (told_in self.new.conversion.writing)) }
+        ensures rules { OnOk result (rules_of self.new.conversion ≡ rules_of self.old.conversion) }
         ensures head { self.new.head ≡ self.old.head }
         ensures cursor { self.new.cursor ≡ self.old.cursor }
         ensures retry { self.new.retry ≡ self.old.retry }
@@ -244,6 +247,7 @@ impl Converting {
         ensures left { IfOk result (λ left. left ≡ passing.is_left_out self.old.retry event.now) }
         ensures told { OnOk result (told_in self.new.conversion.writing
             ≡ told_in self.old.conversion.writing) }
+        ensures rules { OnOk result (rules_of self.new.conversion ≡ rules_of self.old.conversion) }
         ensures order { self.new.order ≡ self.old.order }
         ensures groups { self.new.groups ≡ self.old.groups }
         ensures events { self.new.events.items ≡ self.old.events.items }
@@ -274,10 +278,12 @@ impl Converting {
     /// Takes an event in the order in which things happened, and writes the groups that are
     /// complete.
     fn arrange(&mut self, event: LoggedEvent) -> Result<(), NoLine>
-        ensures passes { OnOk result (Passes (waiting self.old.events.items self.old.order)
-            self.old.groups self.old.ready.items (told_in self.old.conversion.writing)
-            (event ∷ []) (waiting self.new.events.items self.new.order)
-            self.new.groups self.new.ready.items (told_in self.new.conversion.writing)) }
+        ensures passes { OnOk result (Passes (rules_of self.old.conversion)
+            (waiting self.old.events.items self.old.order) self.old.groups self.old.ready.items
+            (told_in self.old.conversion.writing) (event ∷ [])
+            (waiting self.new.events.items self.new.order) self.new.groups self.new.ready.items
+            (told_in self.new.conversion.writing)) }
+        ensures rules { OnOk result (rules_of self.new.conversion ≡ rules_of self.old.conversion) }
         ensures head { self.new.head ≡ self.old.head }
         ensures cursor { self.new.cursor ≡ self.old.cursor }
         ensures retry { self.new.retry ≡ self.old.retry }
@@ -327,8 +333,10 @@ impl Converting {
     /// Writes groups that are complete.
     fn write_groups(&mut self) -> Result<(), NoLine>
         ensures written { OnOk result (self.new.ready.items ≡ []) }
-        ensures told { OnOk result (TellsOf self.old.ready.items
-            (told_in self.old.conversion.writing) (told_in self.new.conversion.writing)) }
+        ensures told { OnOk result (TellsOf (rules_of self.old.conversion)
+            self.old.ready.items (told_in self.old.conversion.writing)
+            (told_in self.new.conversion.writing)) }
+        ensures rules { OnOk result (rules_of self.new.conversion ≡ rules_of self.old.conversion) }
         ensures events { self.new.events.items ≡ self.old.events.items }
         ensures order { self.new.order ≡ self.old.order }
         ensures groups { self.new.groups ≡ self.old.groups }
@@ -344,9 +352,9 @@ impl Converting {
 
     /// The log ends, perhaps torn off.
     pub(crate) fn end(&mut self, is_torn: bool) -> Result<(), NoLine>
-        ensures { OnOk result (Closes is_torn (waiting self.old.events.items self.old.order)
-            self.old.groups self.old.ready.items (told_in self.old.conversion.writing)
-            (told_in self.new.conversion.writing)) }
+        ensures { OnOk result (Closes (rules_of self.old.conversion) is_torn
+            (waiting self.old.events.items self.old.order) self.old.groups self.old.ready.items
+            (told_in self.old.conversion.writing) (told_in self.new.conversion.writing)) }
     {
         self.let_go(is_torn)?;
         self.group()?;
@@ -359,8 +367,8 @@ impl Converting {
 
     /// Lets go the events that wait for their order.
     fn let_go(&mut self, is_torn: bool) -> Result<(), AllocError>
-        ensures order { OnOk result (is_torn ≡ false → Follows
-            (waiting self.old.events.items self.old.order) [] self.new.events.items) }
+        ensures order { OnOk result (LetsGo is_torn (waiting self.old.events.items self.old.order)
+            self.new.events.items) }
         ensures conversion { self.new.conversion ≡ self.old.conversion }
         ensures groups { self.new.groups ≡ self.old.groups }
         ensures ready { self.new.ready.items ≡ self.old.ready.items }

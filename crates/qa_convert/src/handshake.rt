@@ -93,6 +93,7 @@ impl Keys {
     /// The Handshake keys are there.
     pub(crate) fn take_keys(&mut self, writing: &mut Writing, at: At) -> Result<(), NoLine>
         ensures told { OnOk result (told_in writing.new ≡ told_in writing.old) }
+        ensures unit { OnOk result (writing.new.output.unit ≡ writing.old.output.unit) }
     {
         if self.has_keys {
             return Ok(());
@@ -107,6 +108,7 @@ impl Keys {
     /// The handshake is confirmed.
     fn confirm(&mut self, writing: &mut Writing, at: At) -> Result<(), NoLine>
         ensures told { OnOk result (told_in writing.new ≡ told_in writing.old) }
+        ensures unit { OnOk result (writing.new.output.unit ≡ writing.old.output.unit) }
     {
         if self.is_confirmed {
             return Ok(());
@@ -121,6 +123,7 @@ impl Keys {
     /// The Initial keys are gone.
     pub(crate) fn discard_initial(&mut self, writing: &mut Writing, at: At) -> Result<(), NoLine>
         ensures told { OnOk result (told_in writing.new ≡ told_in writing.old) }
+        ensures unit { OnOk result (writing.new.output.unit ≡ writing.old.output.unit) }
     {
         if self.initial_is_gone {
             return Ok(());
@@ -142,6 +145,7 @@ impl Keys {
     /// The Handshake keys are gone, and the handshake is confirmed.
     fn discard_handshake(&mut self, writing: &mut Writing, at: At) -> Result<(), NoLine>
         ensures told { OnOk result (told_in writing.new ≡ told_in writing.old) }
+        ensures unit { OnOk result (writing.new.output.unit ≡ writing.old.output.unit) }
     {
         if self.handshake_is_gone {
             return Ok(());
@@ -168,6 +172,7 @@ impl Keys {
         space: Option<Space>,
     ) -> Result<(), NoLine>
         ensures told { OnOk result (told_in writing.new ≡ told_in writing.old) }
+        ensures unit { OnOk result (writing.new.output.unit ≡ writing.old.output.unit) }
     {
         if space == Some(Space::Handshake) {
             self.take_keys(writing, at)
@@ -184,6 +189,7 @@ impl Keys {
         space: Option<Space>,
     ) -> Result<(), NoLine>
         ensures told { OnOk result (told_in writing.new ≡ told_in writing.old) }
+        ensures unit { OnOk result (writing.new.output.unit ≡ writing.old.output.unit) }
     {
         match space {
             Some(Space::Initial) => {
@@ -208,6 +214,7 @@ impl Keys {
         change: Change,
     ) -> Result<(), NoLine>
         ensures told { OnOk result (told_in writing.new ≡ told_in writing.old) }
+        ensures unit { OnOk result (writing.new.output.unit ≡ writing.old.output.unit) }
     {
         if self.initial_is_pending {
             if !self.is_shown(writing, Space::Initial, reported, change) {
@@ -270,6 +277,7 @@ impl Keys {
         reported: Option<u64>,
     ) -> Result<bool, NoLine>
         ensures told { OnOk result (told_in writing.new ≡ told_in writing.old) }
+        ensures unit { OnOk result (writing.new.output.unit ≡ writing.old.output.unit) }
     {
         let mut is_late = false;
         let is_handshake = packet.packet.space == Space::Handshake;
@@ -307,6 +315,7 @@ impl Keys {
     /// A client took in HANDSHAKE_DONE.
     pub(crate) fn on_done(&mut self, writing: &mut Writing, at: At) -> Result<(), NoLine>
         ensures told { OnOk result (told_in writing.new ≡ told_in writing.old) }
+        ensures unit { OnOk result (writing.new.output.unit ≡ writing.old.output.unit) }
     {
         if self.is_client && self.handshake_is_untold {
             self.discard_handshake(writing, at)?;

@@ -4,7 +4,9 @@ ghost use Rattle.std.specs.List.{list_any};
 ghost use Rattle.qa_base.specs.values.Events.{is_space};
 ghost use Rattle.qa_convert.specs.Losing.{ArePacketNumbers, Names, in_flight, in_space, is_among};
 ghost use Rattle.qa_convert.specs.Losing.{is_in, lost_in, packets_of, with_fit};
-ghost use Rattle.qa_convert.specs.Telling.{told_in};
+ghost use Rattle.qa_convert.specs.Rules.{rules_of};
+ghost use Rattle.qa_convert.specs.Telling.{told_in, will_say};
+ghost use Rattle.qa_convert.specs.declared.guess.Guess.TheVariants as a_guess;
 
 use crate::conversion::{Conversion, LATE_BY_PROGRAM, latest_of};
 use crate::event::{At, Expiry, LoggedEvent, LostPacket, Said};
@@ -35,6 +37,7 @@ impl Conversion {
         ensures lost { OnOk result (Names (in_flight self.old.writing.bare
             (packets_of losses.items ++ lost_in beside.items)) (told_in self.old.writing)
             (told_in self.new.writing)) }
+        ensures rules { OnOk result (rules_of self.new ≡ rules_of self.old) }
     {
         let events = joined(self.writing.alloc, losses, beside)?;
         if self.known.logs_timers {
@@ -52,6 +55,7 @@ impl Conversion {
         ensures lost { OnOk result (Names (in_flight self.old.writing.bare
             (lost_in events.now)) (told_in self.old.writing) (told_in self.new.writing)) }
         ensures bare { OnOk result (self.new.writing.bare ≡ self.old.writing.bare) }
+        ensures rules { OnOk result (rules_of self.new ≡ rules_of self.old) }
     {
         let gap = self.known.gap;
         let mut begun = 0;
@@ -84,6 +88,7 @@ impl Conversion {
         ensures lost { OnOk result (Names (in_flight self.old.writing.bare
             (lost_in events.now)) (told_in self.old.writing) (told_in self.new.writing)) }
         ensures bare { OnOk result (self.new.writing.bare ≡ self.old.writing.bare) }
+        ensures rules { OnOk result (rules_of self.new ≡ rules_of self.old) }
     {
         let Some(first) = events.first() else {
             return Ok(());
@@ -111,6 +116,7 @@ impl Conversion {
         ensures lost { OnOk result (Names (in_flight self.old.writing.bare
             (packets_of losses.now)) (told_in self.old.writing) (told_in self.new.writing)) }
         ensures bare { OnOk result (self.new.writing.bare ≡ self.old.writing.bare) }
+        ensures rules { OnOk result (rules_of self.new ≡ rules_of self.old) }
     {
         match self.first_in_flight(losses) {
             Some(first) => self.show(first, losses)?,
@@ -123,6 +129,7 @@ impl Conversion {
     fn show(&mut self, first: LostAt, losses: &[LostAt]) -> Result<(), NoLine>
         ensures told { OnOk result (told_in self.new.writing ≡ told_in self.old.writing) }
         ensures bare { OnOk result (self.new.writing.bare ≡ self.old.writing.bare) }
+        ensures rules { OnOk result (rules_of self.new ≡ rules_of self.old) }
     {
         let LostAt { at, lost } = first;
         let largest = self.largest.of(lost.space).unwrap_or(0);
@@ -157,6 +164,7 @@ impl Conversion {
             ≡ (told_in self.old.writing).acks) }
         ensures lost { OnOk result (Names (in_flight self.old.writing.bare
             (lost_in beside.now)) (told_in self.old.writing) (told_in self.new.writing)) }
+        ensures rules { OnOk result (rules_of self.new ≡ rules_of self.old) }
     {
         let losses = losses_in(self.writing.alloc, beside)?;
         let is_alone = self.first_in_flight(&losses).is_none();
@@ -192,6 +200,7 @@ impl Conversion {
     ) -> Result<(), NoLine>
         ensures told { OnOk result (told_in self.new.writing ≡ told_in self.old.writing) }
         ensures bare { OnOk result (self.new.writing.bare ≡ self.old.writing.bare) }
+        ensures rules { OnOk result (rules_of self.new ≡ rules_of self.old) }
     {
         let found = self.see_first(losses);
         let space = self.space_of_timer(expiry, kind, found)?;
@@ -201,6 +210,7 @@ impl Conversion {
     /// Sees how old the first packet in flight is that a loss timer found; its space.
     fn see_first(&mut self, losses: &[LostAt]) -> Option<Space>
         ensures writing { self.new.writing ≡ self.old.writing }
+        ensures rules { rules_of self.new ≡ rules_of self.old }
     {
         for it in losses {
             if !self.writing.has_bare(it.lost.space, it.lost.number.get()) {
@@ -214,6 +224,7 @@ impl Conversion {
     /// Sees how old the packet is that a loss timer found at a time.
     fn see_age(&mut self, time: u64, lost: LostPacket)
         ensures writing { self.new.writing ≡ self.old.writing }
+        ensures rules { rules_of self.new ≡ rules_of self.old }
     {
         let rtt = u128::from(self.values.greater_rtt());
         let sent = self.time_of(lost.space, lost.number.get());
@@ -237,6 +248,7 @@ impl Conversion {
     ) -> Result<Space, AllocError>
         ensures told { OnOk result (told_in self.new.writing ≡ told_in self.old.writing) }
         ensures bare { OnOk result (self.new.writing.bare ≡ self.old.writing.bare) }
+        ensures rules { OnOk result (rules_of self.new ≡ rules_of self.old) }
     {
         if let Some(space) = expiry.space {
             return Ok(space);
@@ -262,6 +274,7 @@ impl Conversion {
         ensures lost { OnOk result (Names (in_flight self.old.writing.bare
             (packets_of losses.now)) (told_in self.old.writing) (told_in self.new.writing)) }
         ensures bare { OnOk result (self.new.writing.bare ≡ self.old.writing.bare) }
+        ensures rules { OnOk result (rules_of self.new ≡ rules_of self.old) }
     {
         self.write_lost(at.time, losses)?;
         if self.take_beside(beside) {
@@ -279,6 +292,7 @@ impl Conversion {
         ensures lost { OnOk result (Names (in_flight self.old.writing.bare
             (packets_of losses.now)) (told_in self.old.writing) (told_in self.new.writing)) }
         ensures bare { OnOk result (self.new.writing.bare ≡ self.old.writing.bare) }
+        ensures rules { OnOk result (rules_of self.new ≡ rules_of self.old) }
     {
         let kept = self.losses_in_flight(losses)?;
         if !kept.is_empty() {
@@ -305,6 +319,7 @@ impl Conversion {
         ensures bare { OnOk result (self.new.writing.bare ≡ self.old.writing.bare) }
         ensures kept { IfOk result (λ kept. packets_of kept.items
             ≡ in_flight self.old.writing.bare (packets_of losses.now)) }
+        ensures rules { OnOk result (rules_of self.new ≡ rules_of self.old) }
     {
         let mut kept = Vec::new(self.writing.alloc);
         for it in losses {
@@ -335,6 +350,7 @@ impl Conversion {
         ensures lost { OnOk result (Names (in_space space (packets_of losses.now))
             (told_in self.old.writing) (told_in self.new.writing)) }
         ensures bare { OnOk result (self.new.writing.bare ≡ self.old.writing.bare) }
+        ensures rules { OnOk result (rules_of self.new ≡ rules_of self.old) }
     {
         let numbers = numbers_of(self.writing.alloc, space, losses)?;
         let Some(first) = first_of(space, losses) else {
@@ -363,8 +379,10 @@ impl Conversion {
     /// Writes the line of losses, if it names a packet.
     fn put_lost(&mut self, event: Event, first: Place, last: Place) -> Result<(), NoLine>
         ensures told { OnOk result (told_in self.new.writing
-            ≡ with_fit (told_in self.old.writing) event) }
+            ≡ with_fit (told_in self.old.writing) (will_say self.old.writing a_guess.Size)
+            event) }
         ensures bare { OnOk result (self.new.writing.bare ≡ self.old.writing.bare) }
+        ensures rules { OnOk result (rules_of self.new ≡ rules_of self.old) }
     {
         if !event.fits() {
             return Ok(());

@@ -1,6 +1,7 @@
 //! Events in the order in which things happened, for logs that have another.
 ghost use Rattle.std.specs.Prelude.{◌≡◌, ◌++◌, ◌∷◌, [], OnOk, None, true, false};
-ghost use Rattle.qa_convert.specs.Orders.{Follows, Waits, is_lost, is_received, is_sent, told};
+ghost use Rattle.qa_convert.specs.Orders.{Follows, LetsGo, Waits, is_lost, is_received, is_sent};
+ghost use Rattle.qa_convert.specs.Orders.{told};
 ghost use Rattle.qa_convert.specs.declared.event.Said.TheVariants as said;
 
 use crate::event::{At, LoggedEvent, Report, Said};
@@ -49,6 +50,7 @@ impl PacketFirst {
 
     /// Takes the next event, and appends those whose turn it is. After `AllocError` it is of no
     /// use.
+    #[tactic(auto, using(crate::proofs::Ordered::timer_follows))]
     fn push(
         &mut self,
         event: LoggedEvent,
@@ -83,8 +85,8 @@ impl PacketFirst {
     /// The log ends. If it is torn off, the packet is missing for which what is held waits.
     fn end(&mut self, is_torn: bool, out: &mut VecDeque<LoggedEvent>) -> Result<(), AllocError>
         requires waits { Waits self.old.is_timed self.old.held.items }
-        ensures order { OnOk result (is_torn ≡ false
-            → Follows (out.old.items ++ self.old.held.items) [] out.new.items) }
+        ensures order { OnOk result (LetsGo is_torn (out.old.items ++ self.old.held.items)
+            out.new.items) }
         ensures held { OnOk result (self.new.held.items ≡ []) }
     {
         if is_torn {
@@ -190,7 +192,7 @@ impl PacketFirst {
     }
 
     /// A report: of a timer, of packets that were sent, or of a packet that is still to come.
-    #[tactic(auto, using(crate::proofs::Ordered::last_follows, crate::proofs::Ordered::kept_follows))]
+    #[tactic(auto, using(crate::proofs::Ordered::last_follows, crate::proofs::Ordered::report_follows, crate::proofs::Ordered::joined_follows))]
     fn on_report(
         &mut self,
         event: LoggedEvent,
@@ -391,8 +393,7 @@ impl InOrder {
         is_torn: bool,
         out: &mut VecDeque<LoggedEvent>,
     ) -> Result<(), AllocError>
-        ensures { OnOk result (is_torn ≡ false
-            → Follows (out.old.items ++ self.old) [] out.new.items) }
+        ensures { OnOk result (LetsGo is_torn (out.old.items ++ self.old) out.new.items) }
     {
         let result = self.first.end(is_torn, out);
         self.first = PacketFirst::new(self.alloc);

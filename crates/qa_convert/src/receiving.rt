@@ -4,6 +4,7 @@ ghost use Rattle.qa_convert.specs.AckDelays.{AddsAcks, AddsAllOrNone, IsDelayOf,
 ghost use Rattle.qa_convert.specs.AckDelays.{decoding_of, lines_of};
 ghost use Rattle.qa_convert.specs.Acking.{AllOrNone};
 ghost use Rattle.qa_convert.specs.Losing.{Leaves, NamesOnly, lost_in, packets_of};
+ghost use Rattle.qa_convert.specs.Rules.{rules_of};
 ghost use Rattle.qa_convert.specs.Telling.{told_in};
 
 use crate::conversion::{Conversion, LATE_BY_PROGRAM};
@@ -48,6 +49,7 @@ impl Conversion {
             ≡ (told_in self.old.writing).sent) }
         ensures lost { OnOk result (NamesOnly (packets_of before.items ++ lost_in beside.now)
             (told_in self.old.writing) (told_in self.new.writing)) }
+        ensures rules { OnOk result (rules_of self.new ≡ rules_of self.old) }
     {
         let decoding = self.decoding();
         self.has_come = true;
@@ -84,6 +86,7 @@ impl Conversion {
     /// A packet of the Handshake space shows that its keys are there.
     fn take_keys(&mut self, packet: &PacketAt) -> Result<(), NoLine>
         ensures told { OnOk result (told_in self.new.writing ≡ told_in self.old.writing) }
+        ensures rules { OnOk result (rules_of self.new ≡ rules_of self.old) }
     {
         if packet.packet.space == Space::Handshake {
             self.keys.take_keys(&mut self.writing, packet.at)?;
@@ -105,6 +108,7 @@ impl Conversion {
             ≡ (told_in self.old.writing).sent) }
         ensures lost { OnOk result (NamesOnly (lost_in later.now) (told_in self.old.writing)
             (told_in self.new.writing)) }
+        ensures rules { OnOk result (rules_of self.new ≡ rules_of self.old) }
     {
         if before.is_reported && self.writing.flights.bytes() < before.in_flight {
             self.take_zero();
@@ -134,6 +138,7 @@ impl Conversion {
             ≡ (told_in self.old.writing).acks) }
         ensures lost { IfOk result (λ left. Leaves (packets_of before.items)
             (packets_of left.items) (told_in self.old.writing) (told_in self.new.writing)) }
+        ensures rules { OnOk result (rules_of self.new ≡ rules_of self.old) }
     {
         let Some(first) = before.first() else {
             return Ok(before);
@@ -159,6 +164,7 @@ impl Conversion {
             ≡ (told_in self.old.writing).sent) }
         ensures lost { OnOk result (NamesOnly (packets_of lost.items) (told_in self.old.writing)
             (told_in self.new.writing)) }
+        ensures rules { OnOk result (rules_of self.new ≡ rules_of self.old) }
     {
         self.settle_received(packet, &lost)?;
         if packet.packet.acks.is_empty() {
@@ -186,6 +192,7 @@ impl Conversion {
             ≡ (told_in self.old.writing).sent) }
         ensures lost { OnOk result (NamesOnly (packets_of lost.now) (told_in self.old.writing)
             (told_in self.new.writing)) }
+        ensures rules { OnOk result (rules_of self.new ≡ rules_of self.old) }
     {
         let mut lost = lost;
         for ack in &packet.packet.acks {
@@ -277,6 +284,7 @@ impl Conversion {
     /// The discards that are due, by what leaves with an acknowledgment and its losses.
     fn settle_received(&mut self, packet: &PacketAt, lost: &[LostAt]) -> Result<(), NoLine>
         ensures told { OnOk result (told_in self.new.writing ≡ told_in self.old.writing) }
+        ensures rules { OnOk result (rules_of self.new ≡ rules_of self.old) }
     {
         if !self.keys.awaits_discard() {
             return Ok(());
@@ -331,6 +339,7 @@ impl Conversion {
             ≡ (told_in self.old.writing).sent) }
         ensures lost { OnOk result (NamesOnly (packets_of lost.now) (told_in self.old.writing)
             (told_in self.new.writing)) }
+        ensures rules { OnOk result (rules_of self.new ≡ rules_of self.old) }
     {
         let space = packet.packet.space;
         let Some(top) = top_in(ack) else {
@@ -369,6 +378,7 @@ impl Conversion {
             ≡ (told_in self.old.writing).sent) }
         ensures lost { OnOk result ((told_in self.new.writing).lost
             ≡ (told_in self.old.writing).lost) }
+        ensures rules { OnOk result (rules_of self.new ≡ rules_of self.old) }
     {
         let event = Event::Ack(answer);
         if !event.fits() {
@@ -388,6 +398,7 @@ impl Conversion {
         ensures told { OnOk result (told_in self.new.writing ≡ told_in self.old.writing) }
         ensures delay { IfOk result (λ came. IsDelayOf answer.entry.before.decoding
             packet.now.packet.space answer.entry.ack.now came.1) }
+        ensures rules { OnOk result (rules_of self.new ≡ rules_of self.old) }
     {
         match sent {
             Some(sent) => self.settled(packet, sent.time, answer),
@@ -410,6 +421,7 @@ impl Conversion {
         ensures told { OnOk result (told_in self.new.writing ≡ told_in self.old.writing) }
         ensures delay { IfOk result (λ came. IsDelayOf answer.entry.before.decoding
             packet.now.packet.space answer.entry.ack.now came.1) }
+        ensures rules { OnOk result (rules_of self.new ≡ rules_of self.old) }
     {
         let Before { held, decoding, .. } = answer.before;
         let space = packet.packet.space;
@@ -442,6 +454,7 @@ impl Conversion {
     ) -> Result<u64, AllocError>
         ensures told { OnOk result (told_in self.new.writing ≡ told_in self.old.writing) }
         ensures bare { OnOk result (self.new.writing.bare ≡ self.old.writing.bare) }
+        ensures rules { OnOk result (rules_of self.new ≡ rules_of self.old) }
     {
         let rtt = self.values.greater_rtt();
         let Some(earlier) = at.time.checked_sub(EARLIER) else {
@@ -474,6 +487,7 @@ impl Conversion {
     /// have been taken off, then the log is late by that.
     fn arrival(&mut self, time: u64, sent: u64, delay: u64, held: Values) -> Result<u64, AllocError>
         ensures told { OnOk result (told_in self.new.writing ≡ told_in self.old.writing) }
+        ensures rules { OnOk result (rules_of self.new ≡ rules_of self.old) }
     {
         let latest = self.values.rtts.latest.unwrap_or(0);
         let is_new = latest != held.rtts.latest.unwrap_or(0);
@@ -496,6 +510,7 @@ impl Conversion {
     /// The delay by which a sample was computed, as the reports before and after it show.
     fn settled_delay(&mut self, latest: u64, delay: u64, held: Values) -> Result<u64, AllocError>
         ensures told { OnOk result (told_in self.new.writing ≡ told_in self.old.writing) }
+        ensures rules { OnOk result (rules_of self.new ≡ rules_of self.old) }
     {
         let longest = if self.keys.is_confirmed {
             self.known.max_ack_delay
@@ -513,7 +528,8 @@ impl Conversion {
 
 /// Passes over the ACK frames of a packet of a space whose keys are gone.
 fn pass_over(writing: &mut Writing, acks: &[LoggedAck]) -> Result<(), AllocError>
-    ensures { OnOk result (told_in writing.new ≡ told_in writing.old) }
+    ensures told { OnOk result (told_in writing.new ≡ told_in writing.old) }
+    ensures unit { OnOk result (writing.new.output.unit ≡ writing.old.output.unit) }
 {
     for ack in acks {
         let omission = match top_in(ack) {

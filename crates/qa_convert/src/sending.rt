@@ -1,7 +1,10 @@
 //! Packets that are sent, and the probe timeouts that sent them.
-ghost use Rattle.std.specs.Prelude.{◌≡◌, ◌∷◌, [], ◌||◌, Bool, IfOk, List, OnOk, map, true};
-ghost use Rattle.qa_convert.specs.Sending.{AreOf, IsOf, line_of};
-ghost use Rattle.qa_convert.specs.Telling.{Sends, sized, told_in, with_sent};
+ghost use Rattle.std.specs.Prelude.{◌≡◌, ◌∷◌, [], ◌||◌, Bool, IfOk, List, OnOk, false, nat_eq};
+ghost use Rattle.std.specs.Prelude.{true};
+ghost use Rattle.qa_convert.specs.Rules.{rules_of};
+ghost use Rattle.qa_convert.specs.Sending.{AreOf, IsOf, Wrote};
+ghost use Rattle.qa_convert.specs.Telling.{Sends, sized, told_in, will_say};
+ghost use Rattle.qa_convert.specs.declared.guess.Guess.{Guess as AGuess};
 ghost use Rattle.qa_convert.specs.declared.packet.LoggedPacket.{LoggedPacket as APacket};
 ghost use Rattle.qa_qlog.specs.Frames.{is_in_flight};
 
@@ -54,6 +57,8 @@ impl Outgoing {
     fn grow(&mut self, growth: u64, datagram: u64) -> bool
         ensures packet { self.new.packet ≡ self.old.packet }
         ensures guessed { self.new.is_size_guessed ≡ self.old.is_size_guessed }
+        ensures grown { result ≡ true → nat_eq self.new.size self.old.size ≡ false }
+        ensures same { result ≡ false → self.new ≡ self.old }
     {
         let most = datagram.max(self.size.get());
         let Some(size) = PacketSize::new(growth) else {
@@ -97,9 +102,10 @@ impl Conversion {
         packets: Vec<PacketAt>,
         beside: &[LoggedEvent],
     ) -> Result<(), NoLine>
-        ensures { OnOk result (Sends self.old.known.settles_sizes
+        ensures sends { OnOk result (Sends self.old.known.settles_sizes
             self.old.terms.dialect.sizes_by_growth packets.items (told_in self.old.writing)
             (told_in self.new.writing)) }
+        ensures rules { OnOk result (rules_of self.new ≡ rules_of self.old) }
     {
         let settles = self.known.settles_sizes;
         let by_growth = self.terms.dialect.sizes_by_growth;
@@ -136,8 +142,9 @@ impl Conversion {
         is_reported: bool,
         beside: &[LoggedEvent],
     ) -> Result<(), NoLine>
-        ensures { OnOk result (told_in self.new.writing
-            ≡ with_sent (told_in self.old.writing) (map line_of packets.now)) }
+        ensures wrote { OnOk result (Wrote packets.now (told_in self.old.writing)
+            (told_in self.new.writing)) }
+        ensures rules { OnOk result (rules_of self.new ≡ rules_of self.old) }
     {
         let mut is_late = false;
         for packet in packets {
@@ -158,8 +165,9 @@ impl Conversion {
 
     /// Writes the line of a packet; whether the discard of the Initial keys is due behind it.
     fn send(&mut self, packet: &Outgoing, reported: Option<u64>) -> Result<bool, NoLine>
-        ensures { OnOk result (told_in self.new.writing
-            ≡ with_sent (told_in self.old.writing) (line_of packet.now ∷ [])) }
+        ensures wrote { OnOk result (Wrote (packet.now ∷ []) (told_in self.old.writing)
+            (told_in self.new.writing)) }
+        ensures rules { OnOk result (rules_of self.new ≡ rules_of self.old) }
     {
         let seen = packet.seen();
         let is_late = self
@@ -172,8 +180,9 @@ impl Conversion {
 
     /// Writes the line of a packet.
     fn write_sent(&mut self, packet: &Outgoing) -> Result<(), NoLine>
-        ensures { OnOk result (told_in self.new.writing
-            ≡ with_sent (told_in self.old.writing) (line_of packet.now ∷ [])) }
+        ensures wrote { OnOk result (Wrote (packet.now ∷ []) (told_in self.old.writing)
+            (told_in self.new.writing)) }
+        ensures rules { OnOk result (rules_of self.new ≡ rules_of self.old) }
     {
         if packet.is_size_guessed {
             self.writing.guess(Guess::Size)?;
@@ -203,6 +212,7 @@ impl Conversion {
     /// Keeps a packet that was sent.
     fn keep_sent(&mut self, packet: &Outgoing) -> Result<(), AllocError>
         ensures told { OnOk result (told_in self.new.writing ≡ told_in self.old.writing) }
+        ensures rules { OnOk result (rules_of self.new ≡ rules_of self.old) }
     {
         let space = packet.packet.space;
         let number = packet.packet.number.get();
@@ -225,7 +235,10 @@ impl Conversion {
     /// By what leave a packet of this size is sent: by a probe if one is allowed, else by the
     /// window if it has room, else by the entry into recovery.
     fn permission(&mut self, size: u64) -> Result<Permission, AllocError>
+        ensures says_more { OnOk result ((g : AGuess) → will_say self.old.writing g ≡ true
+            → will_say self.new.writing g ≡ true) }
         ensures told { OnOk result (told_in self.new.writing ≡ told_in self.old.writing) }
+        ensures rules { OnOk result (rules_of self.new ≡ rules_of self.old) }
     {
         let is_first = self.has_fallen;
         self.has_fallen = false;
@@ -262,6 +275,7 @@ impl Conversion {
         ensures are { OnOk result ((ps : List APacket) → AreOf true by_growth ps packets.old.items
             → AreOf true by_growth ps packets.new.items) }
         ensures told { OnOk result (told_in self.new.writing ≡ told_in self.old.writing) }
+        ensures rules { OnOk result (rules_of self.new ≡ rules_of self.old) }
     {
         let alloc = self.writing.alloc;
         let order = order_of(alloc, packets, by_growth)?;
@@ -291,6 +305,7 @@ impl Conversion {
         ensures are { OnOk result ((ps : List APacket) → AreOf true by_growth ps packets.old.items
             → AreOf true by_growth ps packets.new.items) }
         ensures told { OnOk result (told_in self.new.writing ≡ told_in self.old.writing) }
+        ensures rules { OnOk result (rules_of self.new ≡ rules_of self.old) }
     {
         let Some(packet) = packets.get_mut(place) else {
             return Ok(());
@@ -308,6 +323,7 @@ impl Conversion {
         ensures is { OnOk result ((p : APacket) → IsOf true by_growth p packet.old
             → IsOf true by_growth p packet.new) }
         ensures told { OnOk result (told_in self.new.writing ≡ told_in self.old.writing) }
+        ensures rules { OnOk result (rules_of self.new ≡ rules_of self.old) }
     {
         if !by_growth && !packet.is_size_guessed {
             return Ok(());
@@ -326,6 +342,7 @@ impl Conversion {
         ensures are { OnOk result ((ps : List APacket) → AreOf true true ps packets.old.items
             → AreOf true true ps packets.new.items) }
         ensures told { OnOk result (told_in self.new.writing ≡ told_in self.old.writing) }
+        ensures rules { OnOk result (rules_of self.new ≡ rules_of self.old) }
     {
         let mut before: Option<(Space, u64)> = None;
         for packet in packets.iter_mut() {
@@ -346,6 +363,7 @@ impl Conversion {
         ensures is { OnOk result ((p : APacket) → IsOf true true p packet.old
             → IsOf true true p packet.new) }
         ensures told { OnOk result (told_in self.new.writing ≡ told_in self.old.writing) }
+        ensures rules { OnOk result (rules_of self.new ≡ rules_of self.old) }
     {
         let size = packet.size.get();
         let Some((space, least)) = before else {
@@ -364,6 +382,7 @@ impl Conversion {
     /// Probe timeouts that a log without timers shows by its count, or by a packet.
     fn guess_probes(&mut self, packets: &[Outgoing], beside: &[LoggedEvent]) -> Result<(), NoLine>
         ensures told { OnOk result (told_in self.new.writing ≡ told_in self.old.writing) }
+        ensures rules { OnOk result (rules_of self.new ≡ rules_of self.old) }
     {
         let Some(first) = packets.first() else {
             return Ok(());
@@ -464,6 +483,7 @@ impl Conversion {
     /// Probe timeouts by their count.
     fn probes_by_count(&mut self, at: At, beside: &[LoggedEvent]) -> Result<(), NoLine>
         ensures told { OnOk result (told_in self.new.writing ≡ told_in self.old.writing) }
+        ensures rules { OnOk result (rules_of self.new ≡ rules_of self.old) }
     {
         let Some(count) = count_of(beside) else {
             return Ok(());
@@ -490,6 +510,7 @@ impl Conversion {
     ) -> Result<(), NoLine>
         ensures told { OnOk result (told_in self.new.writing ≡ told_in self.old.writing) }
         ensures bare { OnOk result (self.new.writing.bare ≡ self.old.writing.bare) }
+        ensures rules { OnOk result (rules_of self.new ≡ rules_of self.old) }
     {
         let time = self.writing.next_time(nanoseconds)?;
         let event = Event::Timer { time, kind, space };
@@ -508,6 +529,7 @@ impl Conversion {
     /// Bytes that left with no event: quic-go takes packets out of flight that it probes for.
     fn forget(&mut self, at: At) -> Result<(), NoLine>
         ensures told { OnOk result (told_in self.new.writing ≡ told_in self.old.writing) }
+        ensures rules { OnOk result (rules_of self.new ≡ rules_of self.old) }
     {
         let Some(level) = self.values.bytes.in_flight else {
             return Ok(());

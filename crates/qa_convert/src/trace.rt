@@ -243,8 +243,8 @@ impl SecondReading {
 
     /// The log ends, perhaps torn off.
     pub fn end(&mut self, is_torn: bool) -> Result<(), NoLine>
-        ensures closes { OnOk result (Closes is_torn self.old.2.waits self.old.2.held
-            self.old.2.ready (told self.old.1) (told self.new.1)) }
+        ensures closes { OnOk result (Closes self.old.2.rules is_torn self.old.2.waits
+            self.old.2.held self.old.2.ready (told self.old.1) (told self.new.1)) }
         ensures line { self.new.0 ≡ self.old.0 }
     {
         self.converting.end(is_torn)

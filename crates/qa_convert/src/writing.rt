@@ -5,7 +5,8 @@ ghost use Rattle.qa_base.specs.values.Events.{is_named, is_space};
 ghost use Rattle.qa_base.specs.values.Limits.{max_packet_number};
 ghost use Rattle.qa_convert.specs.Losing.{ArePacketNumbers, IsSpan, has_number, is_bare, is_in};
 ghost use Rattle.qa_convert.specs.Losing.{pushed};
-ghost use Rattle.qa_convert.specs.Telling.{nothing, told_in};
+ghost use Rattle.qa_convert.specs.Telling.{nothing, told_in, will_say};
+ghost use Rattle.qa_convert.specs.declared.guess.Guess.{Guess as AGuess};
 
 use crate::bare::Bare;
 use crate::event::At;
@@ -86,8 +87,12 @@ impl Writing {
 
     /// The next line says that this was guessed.
     pub(crate) fn guess(&mut self, guess: Guess) -> Result<(), AllocError>
+        ensures says { OnOk result (will_say self.new guess ≡ true) }
+        ensures says_more { OnOk result ((g : AGuess) → will_say self.old g ≡ true
+            → will_say self.new g ≡ true) }
         ensures told { OnOk result (told_in self.new ≡ told_in self.old) }
         ensures bare { OnOk result (self.new.bare ≡ self.old.bare) }
+        ensures unit { OnOk result (self.new.output.unit ≡ self.old.output.unit) }
     {
         self.notes.guess(guess)?;
         self.output.guess(guess)
@@ -97,6 +102,7 @@ impl Writing {
     pub(crate) fn omit(&mut self, omission: Omission) -> Result<(), AllocError>
         ensures told { OnOk result (told_in self.new ≡ told_in self.old) }
         ensures bare { OnOk result (self.new.bare ≡ self.old.bare) }
+        ensures unit { OnOk result (self.new.output.unit ≡ self.old.output.unit) }
     {
         self.notes.omit(omission, 1)
     }
@@ -134,8 +140,11 @@ impl Writing {
 
     /// The time of the next line, which does not go back.
     pub(crate) fn next_time(&mut self, nanoseconds: u64) -> Result<Ticks, NoLine>
+        ensures says_more { OnOk result ((g : AGuess) → will_say self.old g ≡ true
+            → will_say self.new g ≡ true) }
         ensures told { OnOk result (told_in self.new ≡ told_in self.old) }
         ensures bare { OnOk result (self.new.bare ≡ self.old.bare) }
+        ensures unit { OnOk result (self.new.output.unit ≡ self.old.output.unit) }
     {
         let mut time = self.output.in_unit(nanoseconds);
         if time < self.time {
@@ -154,6 +163,7 @@ impl Writing {
         ensures told { OnOk result (told_in self.new ≡ told_in self.old) }
         ensures bare { OnOk result ((s : ASpace) (n : ℕ) → is_bare self.new.bare s n ≡ true
             → (is_bare self.old.bare s n || (is_space s space && nat_eq n number)) ≡ true) }
+        ensures unit { OnOk result (self.new.output.unit ≡ self.old.output.unit) }
     {
         self.bare.of_mut(space).add(number)
     }
@@ -174,6 +184,7 @@ impl Writing {
     ) -> Result<(), NoLine>
         ensures told { OnOk result (told_in self.new ≡ told_in self.old) }
         ensures bare { OnOk result (self.new.bare ≡ self.old.bare) }
+        ensures unit { OnOk result (self.new.output.unit ≡ self.old.output.unit) }
     {
         let time = self.next_time(nanoseconds)?;
         let values = self.in_unit(values);
@@ -206,6 +217,7 @@ impl Writing {
     /// Bytes that left with no event: a line that only names the packets.
     pub(crate) fn forget(&mut self, at: At, forgotten: Forgotten) -> Result<(), NoLine>
         ensures told { OnOk result (told_in self.new ≡ told_in self.old) }
+        ensures unit { OnOk result (self.new.output.unit ≡ self.old.output.unit) }
     {
         let time = self.next_time(at.time)?;
         let values = self.in_unit(Values::none());
@@ -224,6 +236,7 @@ impl Writing {
     /// The line of the Handshake keys.
     pub(crate) fn keys(&mut self, at: At) -> Result<(), NoLine>
         ensures told { OnOk result (told_in self.new ≡ told_in self.old) }
+        ensures unit { OnOk result (self.new.output.unit ≡ self.old.output.unit) }
     {
         let time = self.next_time(at.time)?;
         self.output.write(Event::Keys { time }, at.place, at.place)?;
@@ -233,6 +246,7 @@ impl Writing {
     /// The line of the confirmed handshake.
     pub(crate) fn confirmed(&mut self, at: At) -> Result<(), NoLine>
         ensures told { OnOk result (told_in self.new ≡ told_in self.old) }
+        ensures unit { OnOk result (self.new.output.unit ≡ self.old.output.unit) }
     {
         let time = self.next_time(at.time)?;
         self.output

@@ -14,6 +14,7 @@ loop-place-preserved c =
             begun = end;
             sent = w.in_ok-detected.ensures.sent ∙ was.sent;
             acks = w.in_ok-detected.ensures.acks ∙ was.acks;
+            rules = w.in_ok-detected.ensures.rules ∙ was.rules;
             bare = w.in_ok-detected.ensures.bare ∙ was.bare;
             lost = detected_more c.args.self.now.writing.bare c.loop-place.begun c.loop-place.place c.args.events.now _ _ _ w.if-begun-place.true was.lost line;
           })

@@ -1,8 +1,8 @@
-use Rattle.std.proofs.Common.{◌≡◌, ◌≤◌, ◌∙◌, [], ◌∷◌, List, length, map, refl, sym, ap, subst, arith}
+use Rattle.std.proofs.Common.{◌≡◌, ◌≤◌, ◌∙◌, [], ◌∷◌, List, length, refl, sym, ap, subst, arith}
 use Rattle.std.proofs.lemmas.Result.{on_ok_weaker}
 use Rattle.qa_convert.proofs.Sent.{lines_are, none_sent}
-use Rattle.qa_convert.specs.Sending.{AreOf, line_of}
-use Rattle.qa_convert.specs.Telling.{sized, told_in}
+use Rattle.qa_convert.specs.Sending.{AreOf, Wrote}
+use Rattle.qa_convert.specs.Telling.{sized, told_in, with_sent}
 use Rattle.qa_convert.specs.declared.conversion.Conversion.{Conversion}
 use Rattle.qa_convert.specs.declared.sending.Outgoing.{Outgoing}
 use Rattle.qa_convert.proofs.conversion.Conversion.on_sent.Goals as goal
@@ -13,8 +13,8 @@ empty_of : (os : List Outgoing) → length os ≤ 0 → os ≡ []
 empty_of [] few = refl
 empty_of (o ∷ os) few = absurd (omega arith)
 
-pub returns-in_default : goal.returns-in_default
-returns-in_default c =
+pub returns-in_default-clause-sends : goal.returns-in_default-clause-sends
+returns-in_default-clause-sends c =
     let s = c.args.self.now.known.settles_sizes in
     let g = c.args.self.now.terms.dialect.sizes_by_growth in
     let item = c.in_default.ensures.item in
@@ -22,12 +22,12 @@ returns-in_default c =
     let none : c.in_ok-packets.packets.items ≡ [] = sym c.deref.ensures.value ∙ empty_of c.deref.result.now few in
     record {
       lines = [];
-      are = lines_are s g (sized c.args.packets.items) [] (subst (λ (os : List Outgoing). AreOf s g (sized c.args.packets.items) os) none (c.in_ok-packets.ensures s g));
+      are = lines_are s g (sized c.args.packets.items) [] [] (subst (λ (os : List Outgoing). AreOf s g (sized c.args.packets.items) os) none (c.in_ok-packets.ensures s g)) refl;
       told = none_sent (told_in c.args.self.now.writing);
     }
 
-pub returns : goal.returns
-returns c =
+pub returns-clause-sends : goal.returns-clause-sends
+returns-clause-sends c =
     let s = c.args.self.now.known.settles_sizes in
     let g = c.args.self.now.terms.dialect.sizes_by_growth in
     let ps = sized c.args.packets.items in
@@ -51,9 +51,12 @@ returns c =
       | else-awaits_discard w ↦ ap (λ (x : Conversion). told_in x.writing) w.self-is ∙ settled
     ] in
     on_ok_weaker c.send_all.result
-    (λ sent. record {
-      lines = map line_of c.if-is_some.packets.items;
-      are = lines_are s g ps c.if-is_some.packets.items are;
-      told = rw (← told, ← c.deref-3.ensures.value) sent;
+    (λ wrote.
+    let all : Wrote c.if-is_some.packets.items (told_in c.if-awaits_discard.self.writing) (told_in c.send_all.new.self.writing) =
+    subst (λ (os : List Outgoing). Wrote os (told_in c.if-awaits_discard.self.writing) (told_in c.send_all.new.self.writing)) c.deref-3.ensures.value wrote in
+    record {
+      lines = all.lines;
+      are = lines_are s g ps c.if-is_some.packets.items all.lines are all.are;
+      told = all.told ∙ ap (λ t. with_sent t all.lines) told;
     })
-    c.send_all.ensures
+    c.send_all.ensures.wrote

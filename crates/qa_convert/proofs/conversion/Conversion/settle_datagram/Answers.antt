@@ -8,4 +8,5 @@ loop-packet-preserved c = record {
       set_are true true ps c.loop-packet.packet-items c.loop-packet.packet-index c.packet-item.result _ (c.loop-packet.invariant.are ps old)
       (λ p is. c.in_ok-settle_added.ensures.is p is);
   told = c.in_ok-settle_added.ensures.told ∙ c.loop-packet.invariant.told;
+  rules = c.in_ok-settle_added.ensures.rules ∙ c.loop-packet.invariant.rules;
 }

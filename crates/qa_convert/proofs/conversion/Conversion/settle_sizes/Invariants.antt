@@ -1,4 +1,5 @@
 use Rattle.std.proofs.Common.{◌≡◌, List, true}
+use Rattle.qa_convert.specs.Rules.{rules_of}
 use Rattle.qa_convert.specs.Sending.{AreOf}
 use Rattle.qa_convert.specs.Telling.{told_in}
 use Rattle.qa_convert.specs.declared.packet.LoggedPacket.{LoggedPacket}
@@ -10,4 +11,5 @@ invariant-loop-place l = record {
   finite : (goal.iterator-loop-place).is_finite l.place-iterator;
   are : (ps : List LoggedPacket) → AreOf true l.by_growth ps l.fn.packets.items → AreOf true l.by_growth ps l.packets.items;
   told : told_in l.self.writing ≡ told_in l.initial.self.writing;
+  rules : rules_of l.self ≡ rules_of l.initial.self;
 }

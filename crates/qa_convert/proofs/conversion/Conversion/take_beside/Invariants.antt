@@ -1,5 +1,9 @@
 use Rattle.std.proofs.Common.{◌≡◌}
+use Rattle.qa_convert.specs.Rules.{rules_of}
 use Rattle.qa_convert.proofs.conversion.Conversion.take_beside.Given as goal
 
 abbrev pub invariant-loop-event : goal.invariant-loop-event
-invariant-loop-event l = l.self.writing ≡ l.initial.self.writing
+invariant-loop-event l = record {
+  writing : l.self.writing ≡ l.initial.self.writing;
+  rules : rules_of l.self ≡ rules_of l.initial.self;
+}

@@ -15,6 +15,7 @@ pub loop-it-init : goal.loop-it-init
 loop-it-init c = record {
   sent = refl;
   acks = refl;
+  rules = refl;
   bare = refl;
   lost = no_spaces (packets_of c.deref-it-items.result.now) (told_in c.if-not-is_empty.self.writing);
   all = λ s is. cc;
@@ -35,6 +36,7 @@ loop-it-preserved c =
           rw (w.self-is, written) (record {
             sent = w.in_ok-write_lost_of.ensures.sent ∙ was.sent;
             acks = w.in_ok-write_lost_of.ensures.acks ∙ was.acks;
+            rules = w.in_ok-write_lost_of.ensures.rules ∙ was.rules;
             bare = w.in_ok-write_lost_of.ensures.bare ∙ was.bare;
             lost = space_more space old (packets_of ls) _ _ _ new was.lost line;
             all = spaces_more ls c.loop-it.it-index c.it-item.result old (with_space space old true) c.loop-it-test.true c.it-item.is
@@ -45,6 +47,7 @@ loop-it-preserved c =
           rw (w.self-is, w.written-is) (record {
             sent = was.sent;
             acks = was.acks;
+            rules = was.rules;
             bare = was.bare;
             lost = was.lost;
             all = spaces_more ls c.loop-it.it-index c.it-item.result old old c.loop-it-test.true c.it-item.is (λ s is. is) here was.all;

@@ -7,7 +7,7 @@ returns c =
     let wrote = c.in_ok-write_groups.ensures in
     record {
       ordered = c.let_go.new.self.events.items;
-      follows = let_go.order;
+      let_go = let_go.order;
       held = c.group.new.self.groups;
       gathered = c.group.new.self.ready.items;
       gathers = rw (let_go.groups, let_go.ready) at grouped.groups;

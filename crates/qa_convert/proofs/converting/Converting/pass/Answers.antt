@@ -1,5 +1,6 @@
 use Rattle.std.proofs.Common.{◌∙◌, sym}
 use Rattle.qa_convert.proofs.Passed.{passes_left_out}
+use Rattle.qa_convert.specs.Rules.{rules_of}
 use Rattle.qa_convert.proofs.converting.Converting.pass.Goals as goal
 
 pub returns-then-branch-clause-passes : goal.returns-then-branch-clause-passes
@@ -7,4 +8,4 @@ returns-then-branch-clause-passes c =
     let w = c.args.self.now in
     let left = c.in_ok-leaves_out.ensures in
     rw (left.order, left.groups, left.events, left.ready)
-    (passes_left_out w.retry c.args.event _ w.groups w.ready.items _ _ (sym left.left ∙ c.if-branch.true) left.told)
+    (passes_left_out (rules_of w.conversion) w.retry c.args.event _ w.groups w.ready.items _ _ (sym left.left ∙ c.if-branch.true) left.told)

@@ -15,7 +15,7 @@ loop-said-preserved c =
     let old = c.loop-said.self in
     let mid = c.pass.new.self in
     let passed = c.in_ok-pass.ensures in
-    let one = goes_one e (progress_of old) (told_of old) (progress_of mid) (told_of mid) passed.head passed.retry passed.passes in
+    let one = goes_one e (progress_of old) (told_of old) (progress_of mid) (told_of mid) passed.head passed.retry passed.rules passed.passes in
     record {
       next = tt;
       finite = tt;
@@ -33,4 +33,4 @@ returns-clause-goes c =
     let old = c.loop-said.self in
     let none : into_iter_items c.loop-said.said-iterator ≡ [] =
     nothing_left (into_iter_items c.loop-said.said-iterator) (sym c.loop-said.said-iterator.rest.ok.0 ∙ c.in-None.ensures.steps.0) in
-    c.loop-said.invariant.goes (progress_of old) (told_of old) (rw none (goes_none (progress_of old) (progress_of old) (told_of old) (told_of old) refl refl refl refl refl refl))
+    c.loop-said.invariant.goes (progress_of old) (told_of old) (rw none (goes_none (progress_of old) (progress_of old) (told_of old) (told_of old) refl refl refl refl refl refl refl))

@@ -23,7 +23,7 @@ returns-in-Some c j begins =
       all = given.0;
       are = rw finds.0 (inl given.1);
       goes =
-          let goes : Goes (events_at c.in-Some.named.at given.0) (progress_of old) (told_of old) (progress_of new) (told_of new) = record { head = given.2.head; retry = given.2.retry; passes = given.2.passes } in
+          let goes : Goes (events_at c.in-Some.named.at given.0) (progress_of old) (told_of old) (progress_of new) (told_of new) = record { head = given.2.head; retry = given.2.retry; rules = given.2.rules; passes = given.2.passes } in
           subst (λ (at : At). Goes (events_at at given.0) (progress_of old) (told_of old) (progress_of new) (told_of new)) finds.1 goes;
     })
     (c.take_event.ensures.goes (data_of old.head.fields j) finds.2)
@@ -39,5 +39,5 @@ returns-in-None c j begins =
       clock = reads.clock;
       all = [];
       are = says_none old.head j (at_of c.args.place old.cursor.index old.cursor.clock reads.event) (name_of reads.event) reads.finds;
-      goes = goes_none (progress_of old) (progress_of (record old { cursor = c.next.new.self })) (told_of old) (told_of old) refl refl refl refl refl refl;
+      goes = goes_none (progress_of old) (progress_of (record old { cursor = c.next.new.self })) (told_of old) (told_of old) refl refl refl refl refl refl refl;
     }

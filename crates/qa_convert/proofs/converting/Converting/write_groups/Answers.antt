@@ -1,6 +1,8 @@
-use Rattle.std.proofs.Common.{◌≡◌, ◌∷◌, [], refl, rules}
+use Rattle.std.proofs.Common.{◌≡◌, ◌∙◌, ◌∷◌, [], refl, rules, subst}
 use Rattle.qa_convert.proofs.GroupTold.{both_tell, tells_none, tells_one}
-use Rattle.qa_convert.specs.Telling.{told_in}
+use Rattle.qa_convert.specs.AckDelays.{Answers}
+use Rattle.qa_convert.specs.Rules.{Rules, rules_of}
+use Rattle.qa_convert.specs.Telling.{Writes, told_in}
 use Rattle.qa_convert.proofs.converting.Converting.write_groups.Goals as goal
 
 pub loop-group-preserved : goal.loop-group-preserved
@@ -11,7 +13,11 @@ loop-group-preserved c =
     let items : c.loop-group.self.ready.items ≡ g ∷ rest = search (rules, c.in-Some.ensures.items) in
     let old = c.loop-group.self.conversion in
     let wrote = c.in_ok-write.ensures in
-    let one = tells_one old.known.settles_sizes old.terms.dialect.sizes_by_growth old.writing.bare g (told_in old.writing) _ wrote.sent wrote.acks wrote.lost in
+    let first = rules_of c.args.self.now.conversion in
+    let mid = told_in c.write.new.self.writing in
+    let writes = subst (λ (r : Rules). Writes r.settles r.by_growth g.about (told_in old.writing) mid) now.rules wrote.sent in
+    let answers = subst (λ (r : Rules). Answers r.decoding g.about (told_in old.writing) mid) now.rules wrote.delays in
+    let one = tells_one first old.writing.bare g (told_in old.writing) mid writes answers wrote.lost in
     record {
       events = now.events;
       order = now.order;
@@ -19,7 +25,8 @@ loop-group-preserved c =
       cursor = now.cursor;
       retry = now.retry;
       groups = now.groups;
-      told = λ after more. now.told after (rw items (both_tell (g ∷ []) rest (told_in old.writing) _ after one more));
+      rules = wrote.rules ∙ now.rules;
+      told = λ after more. now.told after (rw items (both_tell first (g ∷ []) rest (told_in old.writing) mid after one more));
     }
 
 pub returns-clause-told : goal.returns-clause-told
@@ -27,4 +34,4 @@ returns-clause-told c =
     let now = c.loop-group.invariant in
     let none : c.loop-group.self.ready.items ≡ [] = search (rules, c.in_default.ensures.items) in
     let t = told_in c.loop-group.self.conversion.writing in
-    now.told t (rw none (tells_none t t refl))
+    now.told t (rw none (tells_none (rules_of c.args.self.now.conversion) t t refl))

@@ -1,5 +1,6 @@
 use Rattle.std.proofs.Common.{◌≡◌, length}
 use Rattle.qa_convert.specs.GroupLines.{TellsOf}
+use Rattle.qa_convert.specs.Rules.{rules_of}
 use Rattle.qa_convert.specs.Telling.{Told, told_in}
 use Rattle.qa_convert.proofs.converting.Converting.write_groups.Given as goal
 
@@ -11,8 +12,9 @@ invariant-loop-group l = record {
   cursor : l.self.cursor ≡ l.initial.self.cursor;
   retry : l.self.retry ≡ l.initial.self.retry;
   groups : l.self.groups ≡ l.initial.self.groups;
-  told : (after : Told) → TellsOf l.self.ready.items (told_in l.self.conversion.writing) after
-      → TellsOf l.initial.self.ready.items (told_in l.initial.self.conversion.writing) after;
+  rules : rules_of l.self.conversion ≡ rules_of l.initial.self.conversion;
+  told : (after : Told) → TellsOf (rules_of l.initial.self.conversion) l.self.ready.items (told_in l.self.conversion.writing) after
+      → TellsOf (rules_of l.initial.self.conversion) l.initial.self.ready.items (told_in l.initial.self.conversion.writing) after;
 }
 
 abbrev pub decreases-loop-group : goal.decreases-loop-group
