@@ -12,6 +12,7 @@ pub mod Losses
 pub mod Marked
 pub mod Named
 pub mod NoAcks
+pub mod Numbering
 pub mod OneLine
 pub mod Opened
 pub mod Ordered
@@ -23,3 +24,4 @@ pub mod Sent
 pub mod Spliced
 pub mod Texts
 pub mod Traces
+pub mod Units

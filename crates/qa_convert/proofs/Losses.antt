@@ -13,6 +13,7 @@ use Rattle.qa_base.specs.declared.space.Space.{Space}
 use Rattle.qa_base.specs.declared.space.Space.TheVariants.{Initial, Handshake, App}
 use Rattle.qa_base.specs.values.Events.{has_ranges, is_named, is_space}
 use Rattle.qa_base.specs.values.PerSpace.{of_space, with_space}
+use Rattle.qa_convert.specs.Marks.{Marks}
 use Rattle.qa_convert.specs.Losing.{Leaves, Names, NamesOnly, in_flight, in_space, is_among, is_bare, is_of, is_told, lost_in, lost_said, names, packets_of, times_lost, times_told, with_fit}
 use Rattle.qa_convert.specs.Telling.{LostLine, Told, with_event}
 use Rattle.qa_convert.specs.declared.bare.Bare.{Bare}
@@ -449,7 +450,7 @@ told_once s n l ps same =
     let one : times_told s n (l ∷ []) ≡ cond (names s n l) 1 0 + 0 = sum_by-cons (λ (m : LostLine). cond (names s n m) 1 0) l [] in
     let few = one_few (names s n l) (times_lost s n ps) (λ is. some_among s n ps (sym same ∙ ap (λ b. b || false) is)) in omega (arith, one, few)
 
-line_if : (b guessed : Bool) (time : ℕ) (space : Space) (ranges : List (ℕ × ℕ)) (ps : List LostPacket) (a b' : Told) → has_ranges ranges ≡ b → ((n : ℕ) → is_named ranges n ≡ is_among space n ps)
+line_if : (b : Bool) (guessed : Marks) (time : ℕ) (space : Space) (ranges : List (ℕ × ℕ)) (ps : List LostPacket) (a b' : Told) → has_ranges ranges ≡ b → ((n : ℕ) → is_named ranges n ≡ is_among space n ps)
     → b' ≡ cond b (with_event a guessed (event.Lost time space ranges)) a → Names (in_space space ps) a b'
 line_if true guessed time space ranges ps a b' has named told =
     let line : LostLine = record { space = space; ranges = ranges } in
@@ -466,6 +467,6 @@ line_if true guessed time space ranges ps a b' has named told =
 line_if false guessed time space ranges ps a b' has named told = space_none space ps a b' (λ n. sym (named n) ∙ named_none ranges n has) (ap (λ (t : Told). t.lost) told)
 
 -- the line of a space, if there are ranges
-pub space_line : (guessed : Bool) (time : ℕ) (space : Space) (ranges : List (ℕ × ℕ)) (ps : List LostPacket) (a b : Told) → ((n : ℕ) → is_named ranges n ≡ is_among space n ps)
+pub space_line : (guessed : Marks) (time : ℕ) (space : Space) (ranges : List (ℕ × ℕ)) (ps : List LostPacket) (a b : Told) → ((n : ℕ) → is_named ranges n ≡ is_among space n ps)
     → b ≡ with_fit a guessed (event.Lost time space ranges) → Names (in_space space ps) a b
 space_line guessed time space ranges ps a b named told = line_if (has_ranges ranges) guessed time space ranges ps a b refl named told

@@ -1,7 +1,8 @@
 -- What is kept of records that are read.
-use Rattle.std.proofs.Common.{◌≡◌, inl, inr, [], ◌∷◌, Option, Some, None, Result, Ok, Err, true, false, is_some, refl}
+use Rattle.std.proofs.Common.{◌≡◌, inl, inr, List, [], ◌∷◌, Option, Some, None, Result, Ok, Err, true, false, is_some, refl}
 use Rattle.std.specs.Prelude.{IfOk}
 use Rattle.json.specs.Json.{Json}
+use Rattle.qa_qlog.specs.Records.{data_of}
 use Rattle.qa_qlog.specs.declared.heads.Head.{Head}
 use Rattle.qa_qlog.specs.declared.names.EventName.{EventName}
 use Rattle.qa_qlog.specs.declared.names.EventName.TheVariants as name
@@ -24,8 +25,11 @@ if_ok_then P Q (Err e) f is = tt
 -- a record of which nothing is kept
 pub says_none : (head : Head) (j : Json) (at : At) (n : Option EventName) → FindsEvent head j at n None → SaysOf head j n []
 says_none head j at None finds = refl
-says_none head j at (Some n) (inl is) = absurd (let no : Some n ≡ None = is in cc)
-says_none head j at (Some n) (inr names) = inr (names, refl)
+says_none head j at (Some n) is = absurd (let no : Some n ≡ None = is in cc)
+
+-- a record of which an event is kept
+pub says_some : (head : Head) (j : Json) (n : Option EventName) (name : EventName) (all : List Said) → n ≡ Some name → SaysAll head.unit name (data_of head.fields j) all → SaysOf head j n all
+says_some head j n name all is says = rw is says
 
 -- an event that is no list of losses
 pub says_one : (unit : Unit) (n : EventName) (d : Option Json) (s : Said) → (n ≡ name.PacketsLost → ⊥) → SaysSized unit n d s → SaysAll unit n d (s ∷ [])

@@ -3,12 +3,17 @@ use Rattle.std.proofs.Common.{◌≡◌, ◌∙◌, ◌||◌, ℕ, zero, suc, Bo
 use Rattle.std.proofs.lemmas.Bool.Decides.{Decides-eqb}
 use Rattle.std.specs.Prelude.{◌&&◌, nat_eq, not}
 use Rattle.std.proofs.Math.ListN.{set}
+use Rattle.qa_base.specs.declared.space.Permission.{Permission}
+use Rattle.qa_base.specs.declared.space.Permission.TheVariants.{Window, Probe, Recovery}
 use Rattle.qa_qlog.specs.Frames.{is_in_flight}
 use Rattle.qa_convert.specs.Sending.{AreOf, AreWrittenOf, IsOf, IsWrittenOf, Wrote, line_of}
-use Rattle.qa_convert.specs.Telling.{AreLinesOf, IsLineOf, SentLine, Told, sized, with_sent, with_size}
+use Rattle.qa_convert.specs.Telling.{AreLinesOf, IsLineOf, SentLine, Told, next_marks, says_leave, sized, will_say, with_sent, with_size}
 use Rattle.qa_convert.specs.declared.groups.PacketAt.{PacketAt}
+use Rattle.qa_convert.specs.declared.guess.Guess.{Guess}
+use Rattle.qa_convert.specs.declared.guess.Guess.TheVariants as guess
 use Rattle.qa_convert.specs.declared.packet.LoggedPacket.{LoggedPacket}
 use Rattle.qa_convert.specs.declared.sending.Outgoing.{Outgoing}
+use Rattle.qa_convert.specs.declared.writing.Writing.{Writing}
 
 or_none : (b : Bool) → (b || false) ≡ b
 or_none true = refl
@@ -26,6 +31,7 @@ line_is s g p o l is written = record {
   in_flight = λ e. ap (λ (m : SentLine). m.in_flight) written.line
       ∙ ap (λ b. is_in_flight o.packet.content || b) (is.padded e) ∙ or_none (is_in_flight o.packet.content) ∙ ap (λ (q : LoggedPacket). is_in_flight q.content) is.packet;
   guess = λ e known same. written.guess (is.guess e known (sym (ap (λ (m : SentLine). Some m.size) written.line) ∙ same));
+  leave = ap (λ (m : SentLine). m.says_leave) written.line;
 }
 
 none_written : (ls : List SentLine) (os : List Outgoing) → os ≡ [] → AreWrittenOf os ls → ls ≡ []
@@ -109,3 +115,12 @@ lines_then s g (p ∷ ps) qs (l ∷ ls) ms all are = (all.0, lines_then s g ps q
 pub sized_and : (ps qs : List PacketAt) → sized (ps ++ qs) ≡ sized ps ++ sized qs
 sized_and [] qs = refl
 sized_and (p ∷ ps) qs = ap (λ rest. with_size p p.packet.size ++ rest) (sized_and ps qs) ∙ sym (append_assoc (with_size p p.packet.size) (sized ps) (sized qs))
+
+-- ---- leaves
+
+-- a leave that the next line says, it says with more guesses
+pub more_said : (p : Permission) (a b : Writing) → ((g : Guess) → will_say a g ≡ true → will_say b g ≡ true)
+    → says_leave p (next_marks a) ≡ true → says_leave p (next_marks b) ≡ true
+more_said Window a b more says = refl
+more_said Probe a b more says = more guess.LeaveProbe says
+more_said Recovery a b more says = more guess.LeaveRecovery says

@@ -1,15 +1,14 @@
 -- Lines of events, one after another.
-use Rattle.std.proofs.Common.{◌≡◌, ◌∙◌, ℕ, List, [], ◌∷◌, ◌++◌, Bool, Ok, Result, map, append-nil, append_assoc, refl, sym, ap, ap₂}
+use Rattle.std.proofs.Common.{◌≡◌, ◌∙◌, ℕ, List, [], ◌∷◌, ◌++◌, Ok, Result, map, append-nil, append_assoc, refl, sym, ap, ap₂}
 use Rattle.std.proofs.lemmas.List.Sums.{fold-append}
 use Rattle.std.specs.List.{AllByRecursion, fold}
 use Rattle.serde_json.specs.Data.{Members}
-use Rattle.qa_convert.proofs.Marked.{noted_says}
+use Rattle.qa_convert.proofs.Marked.{noted_marks}
 use Rattle.qa_convert.proofs.OneLine.{lines_of_texts}
 use Rattle.qa_convert.proofs.PassedOver.{noted_reads}
-use Rattle.qa_convert.specs.Marks.{says_guess}
+use Rattle.qa_convert.specs.Marks.{Marks, marks_in}
 use Rattle.qa_convert.specs.OwnKeys.{AreEventLines, IsOfEvent, IsWritten, IsWrittenEvent, Noted, noted, own_text, texts_of}
 use Rattle.qa_convert.specs.Telling.{heard, nothing, told, with_line}
-use Rattle.qa_convert.specs.declared.guess.Guess.TheVariants as guess
 use Rattle.qa_format.specs.declared.fault.Fault.{Fault}
 use Rattle.qa_format.specs.declared.line.Line.{Line}
 use Rattle.qa_format.specs.declared.line.Line.TheVariants as line
@@ -38,15 +37,15 @@ are_written : (ns : List Noted) → AllByRecursion IsWrittenEvent ns → AllByRe
 are_written [] all = tt
 are_written (n ∷ ns) all = (all.0.1, are_written ns all.1)
 
-said : Noted → Result Line Fault × Bool
-said n = (Ok n.0, says_guess guess.Size (own_text n.1))
+said : Noted → Result Line Fault × Marks
+said n = (Ok n.0, marks_in (own_text n.1))
 
 one_heard : (x : Line) (own : Members) → IsOfEvent x → IsWritten (x, own) → heard (noted x own) ≡ said (x, own)
 unfolding said
 one_heard line.Blank own is written = absurd is
 one_heard (line.Header s) own is written = absurd is
 one_heard (line.Event e) own is written =
-    ap₂ (λ r b. (r, b)) (noted_reads (line.Event e) own written.0 written.1) (noted_says guess.Size e own written.0 written.1)
+    ap₂ (λ r m. (r, m)) (noted_reads (line.Event e) own written.0 written.1) (noted_marks e own written.0 written.1)
 
 each_heard : (ns : List Noted) → AllByRecursion IsWrittenEvent ns → map heard (texts_of ns) ≡ map said ns
 each_heard [] all = refl
@@ -71,9 +70,9 @@ told_and ns n all one =
 
 -- one line more tells what it says
 pub one_more_told : (bytes : List ℕ) (n : Noted) → AreEventLines bytes → IsWrittenEvent n
-    → told (bytes ++ with_lf (noted n.0 n.1)) ≡ with_line (told bytes) (Ok n.0, says_guess guess.Size (own_text n.1))
+    → told (bytes ++ with_lf (noted n.0 n.1)) ≡ with_line (told bytes) (Ok n.0, marks_in (own_text n.1))
 unfolding said
 one_more_told bytes n are one =
     ap told (ap (λ bs. bs ++ with_lf (noted n.0 n.1)) are.2 ∙ sym (ended_and are.0 n))
     ∙ told_and are.0 n are.1 one
-    ∙ ap (λ bs. with_line (told bs) (Ok n.0, says_guess guess.Size (own_text n.1))) (sym are.2)
+    ∙ ap (λ bs. with_line (told bs) (Ok n.0, marks_in (own_text n.1))) (sym are.2)

@@ -1,17 +1,20 @@
 -- The lines of the acknowledgments that packets brought: each has the space and the ranges of an
 -- ACK frame, and its delay in the unit of the trace.
-use Rattle.std.specs.Prelude.{◌≡◌, ◌⊎◌, ◌++◌, ◌*◌, ◌-◌, ◌^◌, ℕ, true, false, List, [], ◌∷◌}
+use Rattle.std.specs.Prelude.{◌≡◌, ◌⊎◌, ◌++◌, ◌*◌, ◌-◌, ◌^◌, ℕ, Bool, true, false, List, [], ◌∷◌}
 use Rattle.std.specs.Prelude.{if◌then◌else◌, min}
 use Rattle.std.specs.List.{AllZip, filter}
 use Rattle.qa_base.specs.declared.event.Ack.{Ack}
 use Rattle.qa_base.specs.declared.space.Space.{Space}
+use Rattle.qa_base.specs.declared.space.Space.TheVariants.{Initial, Handshake}
 use Rattle.qa_base.specs.values.Events.{has_ranges}
 use Rattle.qa_base.specs.values.PerSpace.{of_space}
-use Rattle.qa_convert.specs.Acking.{is_gone}
+use Rattle.qa_convert.specs.Marks.{Marks}
 use Rattle.qa_convert.specs.Outputs.{in_unit}
 use Rattle.qa_convert.specs.Telling.{AckLine, Told, ack_line}
 use Rattle.qa_convert.specs.declared.conversion.Conversion.{Conversion}
 use Rattle.qa_convert.specs.declared.decoding.Decoding.{Decoding}
+use Rattle.qa_convert.specs.declared.dialects.Limited.{Limited}
+use Rattle.qa_convert.specs.declared.dialects.Limited.TheVariants.{ByState}
 use Rattle.qa_convert.specs.declared.groups.About.{About}
 use Rattle.qa_convert.specs.declared.groups.About.TheVariants as about
 use Rattle.qa_convert.specs.declared.handshake.Keys.{Keys}
@@ -38,7 +41,7 @@ decoded d s a = if of_space s d.subtracts then meant d a.delay else 0
 abbrev pub IsDelayOf : Decoding → Space → LoggedAck → ℕ → Type 0
 IsDelayOf d s a delay = d.has_cut_times ≡ false → delay ≡ decoded d s a
 
--- by what the delays of a log are decoded: its dialect, the peer's exponent, the unit of the trace
+-- by what the ACK frames of a log are read: its dialect, the peer's exponent, the unit of the trace
 abbrev pub decoding_of : Conversion → Decoding
 decoding_of c = record {
   subtracts = c.terms.dialect.subtracts_delay;
@@ -46,16 +49,23 @@ decoding_of c = record {
   exponent = c.known.delay_exponent;
   unit = c.writing.output.unit;
   has_cut_times = c.known.has_cut_times;
+  limited = c.terms.dialect.limited;
 }
+
+-- the log says by itself that the sender had not used its window (RFC 9002, section 7.8)
+abbrev pub is_by_state : Limited → Bool
+is_by_state ByState = true
+is_by_state _ = false
 
 -- ---- the lines of frames
 
 -- a line says the space, the ranges and the delay of an ACK frame; the delay may be another one if
--- times are cut
+-- times are cut; that the window was not used is said to be a guess, unless the log says it
 pub record IsLineOfAck (d : Decoding) (s : Space) (a : LoggedAck) (l : AckLine) : Type 0 where
   pub space : l.space ≡ s
   pub ranges : l.ranges ≡ a.ranges
   pub delay : d.has_cut_times ≡ false → l.delay ≡ in_unit d.unit (decoded d s a)
+  pub limited : is_by_state d.limited ≡ false → l.says_limited ≡ true
 
 -- the frames that name a packet: others have no line
 abbrev pub naming : List LoggedAck → List LoggedAck
@@ -70,10 +80,16 @@ pub record AddsAcks (d : Decoding) (s : Space) (acks : List LoggedAck) (before a
   pub told : after.acks ≡ before.acks ++ lines
 
 -- what is written of an acknowledgment: there is no line of one that names no packet
-abbrev pub lines_of : Ack → List AckLine
-lines_of a = if has_ranges a.ranges then ack_line a ∷ [] else []
+abbrev pub lines_of : Marks → Ack → List AckLine
+lines_of m a = if has_ranges a.ranges then ack_line m a ∷ [] else []
 
 -- ---- the lines of packets and groups
+
+-- the keys of a space are gone
+abbrev pub is_gone : Keys → Space → Bool
+is_gone keys Initial = keys.initial_is_gone
+is_gone keys Handshake = keys.handshake_is_gone
+is_gone keys _ = false
 
 -- all ACK frames of a packet have their lines, or none has one, since the keys of the space are
 -- gone by then

@@ -1,6 +1,7 @@
 pub mod AckDelays
-pub mod Acking
 pub mod Clocks
+pub mod Connections
+pub mod Dialects
 pub mod Flights
 pub mod Gathering
 pub mod GroupLines

@@ -11,6 +11,7 @@ use Rattle.qa_base.specs.declared.space.Space.{Space}
 use Rattle.qa_base.specs.values.Events.{fits, is_named, is_space}
 use Rattle.qa_base.specs.values.Limits.{max_packet_number}
 use Rattle.qa_base.specs.values.PerSpace.{of_space}
+use Rattle.qa_convert.specs.Marks.{Marks}
 use Rattle.qa_convert.specs.Telling.{LostLine, Told, with_event}
 use Rattle.qa_convert.specs.declared.bare.Bare.{Bare}
 use Rattle.qa_convert.specs.declared.event.LoggedEvent.{LoggedEvent}
@@ -77,8 +78,8 @@ abbrev pub times_told : Space → ℕ → List LostLine → ℕ
 times_told s n ls = count_by (names s n) ls
 
 -- what is told once an event is, too, if a line can say it
-abbrev pub with_fit : Told → Bool → Event → Told
-with_fit t guessed e = if fits e then with_event t guessed e else t
+abbrev pub with_fit : Told → Marks → Event → Told
+with_fit t m e = if fits e then with_event t m e else t
 
 -- there are more lines of losses: they name these packets and no others, and none more often than
 -- it is among these

@@ -7,6 +7,7 @@ use Rattle.qa_format.specs.format.Reading.{json_of}
 use Rattle.qa_convert.specs.Guesses.{guess_text}
 use Rattle.qa_convert.specs.OwnKeys.{own_key_name}
 use Rattle.qa_convert.specs.declared.guess.Guess.{Guess}
+use Rattle.qa_convert.specs.declared.guess.Guess.TheVariants as guess
 use Rattle.qa_convert.specs.declared.own.OwnKey.TheVariants as keys
 
 -- the value is this text
@@ -32,3 +33,23 @@ is_said g _ = false
 -- the line says that this was guessed
 unfoldable pub says_guess : Guess → List ℕ → Bool
 says_guess g text = is_said g (json_of text)
+
+-- which guesses the line of a packet says: that of its size; those of the leave by which it was
+-- sent, a probe's or that of the entry into recovery; that the window was not used
+pub record Marks : Type 0 where
+  pub size : Bool
+  pub probe : Bool
+  pub recovery : Bool
+  pub limited : Bool
+
+abbrev pub marks_by : (Guess → Bool) → Marks
+marks_by is_said = record {
+  size = is_said guess.Size;
+  probe = is_said guess.LeaveProbe;
+  recovery = is_said guess.LeaveRecovery;
+  limited = is_said guess.LimitedByWindow;
+}
+
+-- those that the text of a line says
+abbrev pub marks_in : List ℕ → Marks
+marks_in text = marks_by (λ g. says_guess g text)

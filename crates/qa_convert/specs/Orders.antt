@@ -44,8 +44,7 @@ pub record Follows (before more behind : List LoggedEvent) : Type 0 where
   pub kept : (test : Said → Bool) → OfKept test
       → count_of test behind ≡ count_of test before + count_of test more
 
--- the log is torn off: of the events that wait the last ones are left out, perhaps, which are no
--- packets
+-- the log is torn off: the last of the events that wait may be left out, none of which is a packet
 pub record LeavesLast (waits ordered : List LoggedEvent) : Type 0 where
   pub front : List LoggedEvent
   pub gone : List LoggedEvent

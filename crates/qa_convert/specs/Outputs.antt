@@ -6,6 +6,7 @@ use Rattle.serde_json.specs.Data.{Members, array, no_members, put, string}
 use Rattle.qa_base.specs.declared.space.TimeUnit.{TimeUnit}
 use Rattle.qa_base.specs.declared.space.TimeUnit.TheVariants.{Microseconds, Nanoseconds}
 use Rattle.qa_convert.specs.Guesses.{is_guess, is_of_line, texts_of}
+use Rattle.qa_convert.specs.Marks.{Marks, marks_by}
 use Rattle.qa_convert.specs.OwnKeys.{own_key_name}
 use Rattle.qa_convert.specs.Places.{stretch_text}
 use Rattle.qa_convert.specs.declared.guess.Guess.{Guess}
@@ -17,13 +18,17 @@ abbrev pub in_unit : TimeUnit → ℕ → ℕ
 in_unit Microseconds ns = ns / 1000
 in_unit Nanoseconds ns = ns
 
--- guesses with one more, which is told once
-abbrev pub with_guess : Guess → List Guess → List Guess
-with_guess g gs = if list_any (is_guess g) gs then gs else gs ++ g ∷ []
-
 -- this is among what was guessed
 abbrev pub has_guess : Guess → List Guess → Bool
 has_guess g gs = list_any (is_guess g) gs
+
+-- what the line says for which these were guessed
+abbrev pub marks_of : List Guess → Marks
+marks_of gs = marks_by (λ g. has_guess g gs)
+
+-- guesses with one more, which is told once
+abbrev pub with_guess : Guess → List Guess → List Guess
+with_guess g gs = if has_guess g gs then gs else gs ++ g ∷ []
 
 -- some guess is of a whole line, of which the log has no record
 abbrev pub are_of_line : List Guess → Bool

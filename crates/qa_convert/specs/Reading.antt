@@ -1,7 +1,7 @@
 -- What the records of a log say, one after another: the events of a record by the head of the log,
 -- the value j of the record, its place, and how far the log is read.
-use Rattle.std.specs.Prelude.{◌≡◌, ◌⊎◌, ◌||◌, ◌+◌, ◌-◌, ◌^◌, ℕ, ℤ, Bool, true, false, List, [], ◌∷◌}
-use Rattle.std.specs.Prelude.{map, min, is_some, pos, Option, Some, None, Ok}
+use Rattle.std.specs.Prelude.{◌≡◌, ◌⊎◌, ◌+◌, ◌-◌, ◌^◌, ℕ, ℤ, Bool, true, false, List, [], ◌∷◌}
+use Rattle.std.specs.Prelude.{map, min, pos, Option, Some, None, Ok, if◌then◌else◌}
 use Rattle.json.specs.Json.{Json}
 use Rattle.json.specs.Find.{Finds}
 use Rattle.qa_qlog.specs.Losses.{packets}
@@ -12,6 +12,7 @@ use Rattle.qa_qlog.specs.declared.names.EventName.TheVariants as name
 use Rattle.qa_qlog.specs.declared.records.EventHead.{EventHead}
 use Rattle.qa_qlog.specs.declared.times.Unit.{Unit}
 use Rattle.qa_convert.specs.Clocks.{begun, last_after, shown}
+use Rattle.qa_convert.specs.Connections.{Numbering, is_of_chosen, numbered, numbering_of}
 use Rattle.qa_convert.specs.Said.{Says, SaysLost}
 use Rattle.qa_convert.specs.declared.clock.Clock.{Clock}
 use Rattle.qa_convert.specs.declared.event.At.{At}
@@ -101,18 +102,24 @@ abbrev pub name_of : Option EventHead → Option EventName
 name_of None = None
 name_of (Some head) = head.name
 
--- a log tells connections apart by groups and paths
-abbrev pub tells_apart : Option (List ℕ) → Option (List ℕ) → Bool
-tells_apart group path = is_some group || is_some path
+-- the connections once a record is read: one that is no event that is converted names none
+abbrev pub connections_after : Head → Json → Option EventName → Numbering → Numbering
+connections_after head j None old = old
+connections_after head j (Some n) old =
+    numbered old (group_of head.fields j) (path_of (data_of head.fields j))
 
--- a record that names neither is of each connection
-abbrev pub names_connection : Head → Json → Bool
-names_connection head j = tells_apart (group_of head.fields j) (path_of (data_of head.fields j))
+-- whether a record is of the connection that is converted
+abbrev pub is_chosen : Head → Json → Numbering → Bool
+is_chosen head j old = is_of_chosen old (group_of head.fields j) (path_of (data_of head.fields j))
 
--- an event that is converted, with its data; none if the record is no such event, or if it names a
--- connection, which may be another one
+-- the event of a record of another connection is left out
+abbrev pub chosen_only : Head → Json → Numbering → Option EventName → Option EventName
+chosen_only head j old None = None
+chosen_only head j old (Some n) = if is_chosen head j old then Some n else None
+
+-- an event that is converted, with its data; none if the record is no such event
 abbrev pub FindsEvent : Head → Json → At → Option EventName → Option Named → Type 0
-FindsEvent head j at n None = (n ≡ None) ⊎ (names_connection head j ≡ true)
+FindsEvent head j at n None = n ≡ None
 FindsEvent head j at n (Some found) =
     (n ≡ Some found.name) × (found.at ≡ at) × Finds found.object (data_of head.fields j)
 
@@ -123,7 +130,10 @@ pub record Reads (head : Head) (j : Json) (place : Place) (old new : Cursor) (fo
   pub says : event_of head.fields head.unit j ≡ Ok event
   pub index : new.index ≡ next_index old.index
   pub clock : new.clock ≡ clock_after old.clock event
-  pub finds : FindsEvent head j (at_of place old.index old.clock event) (name_of event) found
+  pub connections : numbering_of new.connections
+      ≡ connections_after head j (name_of event) (numbering_of old.connections)
+  pub finds : FindsEvent head j (at_of place old.index old.clock event)
+      (chosen_only head j (numbering_of old.connections) (name_of event)) found
 
 -- ---- the events of a record
 
@@ -132,13 +142,10 @@ abbrev pub SaysAll : Unit → EventName → Option Json → List Said → Type 0
 SaysAll unit name.PacketsLost d all = SaysLosses d all
 SaysAll unit n d all = (s : Said) × (all ≡ s ∷ []) × SaysSized unit n d s
 
--- what is kept of a record: nothing if it is no event that is converted, or if it names a
--- connection, which may be another one
+-- what is kept of a record: nothing if it is no event that is converted
 abbrev pub SaysOf : Head → Json → Option EventName → List Said → Type 0
 SaysOf head j None all = all ≡ []
-SaysOf head j (Some n) all =
-    SaysAll head.unit n (data_of head.fields j) all
-    ⊎ ((names_connection head j ≡ true) × (all ≡ []))
+SaysOf head j (Some n) all = SaysAll head.unit n (data_of head.fields j) all
 
 abbrev pub event_at : At → Said → LoggedEvent
 event_at at s = record { at = at; said = s }

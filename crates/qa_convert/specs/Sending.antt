@@ -5,7 +5,7 @@ use Rattle.qa_convert.specs.Telling.{SentLine, Told, may_settle, with_sent}
 use Rattle.qa_convert.specs.declared.packet.LoggedPacket.{LoggedPacket}
 use Rattle.qa_convert.specs.declared.sending.Outgoing.{Outgoing}
 
--- the line of a packet, which says or does not say that the size is a guess
+-- the line of a packet, which says or does not say that the size is a guess, and says so of a leave
 abbrev pub line_of : Outgoing → Bool → SentLine
 line_of o is_size_guessed = record {
   space = o.packet.space;
@@ -14,6 +14,7 @@ line_of o is_size_guessed = record {
   eliciting = o.packet.content.is_eliciting;
   in_flight = is_in_flight o.packet.content || o.is_padded;
   is_size_guessed = is_size_guessed;
+  says_leave = true;
 }
 
 -- a line is that of a packet, and says that the size is a guess if it is

@@ -6,14 +6,16 @@ use Rattle.json.specs.Json.{Json}
 use Rattle.qa_qlog.specs.Records.{event_of}
 use Rattle.qa_qlog.specs.declared.heads.Head.{Head}
 use Rattle.qa_qlog.specs.declared.records.EventHead.{EventHead}
+use Rattle.qa_convert.specs.Connections.{Numbering, none_named, numbering_of}
 use Rattle.qa_convert.specs.Groups.{Held, at_start}
 use Rattle.qa_convert.specs.Passing.{Passes, counted, waiting}
-use Rattle.qa_convert.specs.Reading.{SaysOf, at_of, clock_after, clock_before, event_at}
-use Rattle.qa_convert.specs.Reading.{events_at, name_of, next_index}
+use Rattle.qa_convert.specs.Reading.{SaysOf, at_of, chosen_only, clock_after, clock_before}
+use Rattle.qa_convert.specs.Reading.{connections_after, event_at, events_at, name_of, next_index}
 use Rattle.qa_convert.specs.Rules.{Rules, rules_of}
 use Rattle.qa_convert.specs.Telling.{Told, told_in}
 use Rattle.qa_convert.specs.declared.clock.Clock.{Clock}
 use Rattle.qa_convert.specs.declared.converting.Converting.{Converting}
+use Rattle.qa_convert.specs.declared.dialects.Dialect.{Dialect}
 use Rattle.qa_convert.specs.declared.event.At.{At}
 use Rattle.qa_convert.specs.declared.event.LoggedEvent.{LoggedEvent}
 use Rattle.qa_convert.specs.declared.event.Said.{Said}
@@ -22,13 +24,15 @@ use Rattle.qa_convert.specs.declared.groups.Group.{Group}
 use Rattle.qa_convert.specs.declared.place.Place.{Place}
 use Rattle.qa_convert.specs.declared.survey.Retry.{Retry}
 
--- how far a log is read: its head, a Retry behind which its trace begins, the clock, the index of
--- the next record, the events that wait for their order, those that are held in groups, the groups
--- that are not written, and what stays the same for the whole log
+-- how far a log is read: its head, a Retry behind which its trace begins, the clock, the
+-- connections that were named, the index of the next record, the events that wait for their order,
+-- those that are held in groups, the groups that are not written, and what stays the same for the
+-- whole log
 pub record Progress : Type 0 where
   pub head : Head
   pub retry : Option Retry
   pub clock : Clock
+  pub connections : Numbering
   pub index : ℕ
   pub waits : List LoggedEvent
   pub held : Held
@@ -40,6 +44,7 @@ progress_of c = record {
   head = c.head;
   retry = c.retry;
   clock = c.cursor.clock;
+  connections = numbering_of c.cursor.connections;
   index = c.cursor.index;
   waits = waiting c.events.items c.order;
   held = c.groups;
@@ -47,14 +52,20 @@ progress_of c = record {
   rules = rules_of c.conversion;
 }
 
--- no record is read
-pub record Begins (h : Head) (p : Progress) : Type 0 where
+-- no record is read, the connection of this number is converted, and the log is of this dialect,
+-- except for its order and how fine its times are
+pub record Begins (h : Head) (chosen : ℕ) (d : Dialect) (p : Progress) : Type 0 where
   pub head : p.head ≡ h
   pub clock : p.clock ≡ clock_before h
+  pub connections : p.connections ≡ none_named chosen
   pub index : p.index ≡ 0
   pub waits : p.waits ≡ []
-  pub held : p.held ≡ at_start p.held.reports_first
+  pub held : p.held ≡ at_start d.metrics_stand_before
   pub ready : p.ready ≡ []
+  pub subtracts : p.rules.decoding.subtracts ≡ d.subtracts_delay
+  pub is_encoded : p.rules.decoding.is_encoded ≡ d.delay_is_encoded
+  pub limited : p.rules.decoding.limited ≡ d.limited
+  pub by_growth : p.rules.by_growth ≡ d.sizes_by_growth
 
 -- what its lines tell
 abbrev pub told_of : Converting → Told
@@ -77,8 +88,10 @@ pub record Takes (j : Json) (place : Place) (old : Progress) (before : Told) (ne
   pub says : event_of old.head.fields old.head.unit j ≡ Ok event
   pub index : new.index ≡ next_index old.index
   pub clock : new.clock ≡ clock_after old.clock event
+  pub connections : new.connections
+      ≡ connections_after old.head j (name_of event) old.connections
   pub all : List Said
-  pub are : SaysOf old.head j (name_of event) all
+  pub are : SaysOf old.head j (chosen_only old.head j old.connections (name_of event)) all
   pub goes : Goes (events_at (at_of place old.index old.clock event) all) old before new after
 
 -- a text that is not JSON may be a report
@@ -90,4 +103,5 @@ pub record TakesUnread (place : Place) (is_report : Bool) (old : Progress) (befo
     (new : Progress) (after : Told) : Type 0 where
   pub index : new.index ≡ next_index old.index
   pub clock : new.clock ≡ old.clock
+  pub connections : new.connections ≡ old.connections
   pub goes : Goes (unread_at is_report (at_of place old.index old.clock None)) old before new after

@@ -1,11 +1,13 @@
 -- What lines tell of packets: a reader of traces reads the text that was written.
 use Rattle.std.specs.Prelude.{◌≡◌, ◌||◌, ◌&&◌, ℕ, Bool, false, List, [], ◌∷◌, ◌++◌, flat_map, map}
-use Rattle.std.specs.Prelude.{Result, Ok, Option, Some, None, true}
+use Rattle.std.specs.Prelude.{Result, Ok, Option, Some, None, if◌then◌else◌, true}
 use Rattle.std.specs.List.{fold}
 use Rattle.qa_base.specs.declared.event.Ack.{Ack}
 use Rattle.qa_base.specs.declared.event.Event.{Event}
 use Rattle.qa_base.specs.declared.event.Event.TheVariants as event
 use Rattle.qa_base.specs.declared.event.SentPacket.{SentPacket}
+use Rattle.qa_base.specs.declared.space.Permission.{Permission}
+use Rattle.qa_base.specs.declared.space.Permission.TheVariants.{Window, Probe, Recovery}
 use Rattle.qa_base.specs.declared.space.Space.{Space}
 use Rattle.qa_format.specs.declared.fault.Fault.{Fault}
 use Rattle.qa_format.specs.declared.line.Line.{Line}
@@ -13,18 +15,18 @@ use Rattle.qa_format.specs.declared.line.Line.TheVariants as line
 use Rattle.qa_format.specs.format.Lines.{lines}
 use Rattle.qa_format.specs.format.Reading.{reading}
 use Rattle.qa_qlog.specs.Frames.{is_in_flight}
-use Rattle.qa_convert.specs.Marks.{says_guess}
-use Rattle.qa_convert.specs.Outputs.{has_guess}
+use Rattle.qa_convert.specs.Marks.{Marks, marks_in}
+use Rattle.qa_convert.specs.Outputs.{has_guess, marks_of}
 use Rattle.qa_convert.specs.declared.groups.About.{About}
 use Rattle.qa_convert.specs.declared.groups.About.TheVariants as about
 use Rattle.qa_convert.specs.declared.groups.Group.{Group}
 use Rattle.qa_convert.specs.declared.groups.PacketAt.{PacketAt}
 use Rattle.qa_convert.specs.declared.guess.Guess.{Guess}
-use Rattle.qa_convert.specs.declared.guess.Guess.TheVariants as a_guess
 use Rattle.qa_convert.specs.declared.packet.LoggedPacket.{LoggedPacket}
 use Rattle.qa_convert.specs.declared.writing.Writing.{Writing}
 
--- of a packet that was sent; the line may say that it has a guess for the size
+-- of a packet that was sent; the line may say that it has a guess for the size, and that the leave
+-- by which it was sent is one, if that is not the window
 pub record SentLine : Type 0 where
   pub space : Space
   pub number : ℕ
@@ -32,12 +34,14 @@ pub record SentLine : Type 0 where
   pub eliciting : Bool
   pub in_flight : Bool
   pub is_size_guessed : Bool
+  pub says_leave : Bool
 
--- of an acknowledgment that came
+-- of an acknowledgment that came; the line may say that it is a guess that the window was not used
 pub record AckLine : Type 0 where
   pub space : Space
   pub ranges : List (ℕ × ℕ)
   pub delay : ℕ
+  pub says_limited : Bool
 
 -- of packets that were declared lost
 pub record LostLine : Type 0 where
@@ -53,35 +57,50 @@ pub record Told : Type 0 where
 abbrev pub nothing : Told
 nothing = record { sent = []; acks = []; lost = [] }
 
-abbrev pub sent_line : Bool → SentPacket → SentLine
-sent_line is_size_guessed p = record {
+-- a leave by a probe or by the entry into recovery is said to be a guess
+abbrev pub says_leave : Permission → Marks → Bool
+says_leave Window m = true
+says_leave Probe m = m.probe
+says_leave Recovery m = m.recovery
+
+abbrev pub sent_line : Marks → SentPacket → SentLine
+sent_line m p = record {
   space = p.space;
   number = p.number;
   size = p.size;
   eliciting = p.eliciting;
   in_flight = p.in_flight;
-  is_size_guessed = is_size_guessed;
+  is_size_guessed = m.size;
+  says_leave = says_leave p.permission m;
 }
 
-abbrev pub ack_line : Ack → AckLine
-ack_line a = record { space = a.space; ranges = a.ranges; delay = a.delay }
+-- that the window was not used is said to be a guess
+abbrev pub says_limited : Bool → Marks → Bool
+says_limited is_limited m = if is_limited then m.limited else true
 
--- what is told once an event is, too, whose line says or does not say that a size is a guess: other
--- events tell nothing of packets
-abbrev pub with_event : Told → Bool → Event → Told
-with_event t guessed (event.Sent p) =
-    record t { sent = t.sent ++ sent_line guessed p ∷ [] }
-with_event t guessed (event.Ack a) = record t { acks = t.acks ++ ack_line a ∷ [] }
-with_event t guessed (event.Lost time space ranges) =
+abbrev pub ack_line : Marks → Ack → AckLine
+ack_line m a = record {
+  space = a.space;
+  ranges = a.ranges;
+  delay = a.delay;
+  says_limited = says_limited a.app_limited m;
+}
+
+-- what is told once an event is, too, whose line says which guesses it has: other events tell
+-- nothing of packets
+abbrev pub with_event : Told → Marks → Event → Told
+with_event t m (event.Sent p) = record t { sent = t.sent ++ sent_line m p ∷ [] }
+with_event t m (event.Ack a) = record t { acks = t.acks ++ ack_line m a ∷ [] }
+with_event t m (event.Lost time space ranges) =
     record t { lost = t.lost ++ record { space = space; ranges = ranges } ∷ [] }
-with_event t guessed _ = t
+with_event t m _ = t
 
--- what the text of a line says, and whether it says that a size is a guess
-abbrev pub heard : List ℕ → Result Line Fault × Bool
-heard text = (reading text, says_guess a_guess.Size text)
+-- what the text of a line says, and which guesses it says that it has
+abbrev pub heard : List ℕ → Result Line Fault × Marks
+heard text = (reading text, marks_in text)
 
-abbrev pub with_line : Told → Result Line Fault × Bool → Told
-with_line t (Ok (line.Event e), guessed) = with_event t guessed e
+abbrev pub with_line : Told → Result Line Fault × Marks → Told
+with_line t (Ok (line.Event e), m) = with_event t m e
 with_line t _ = t
 
 -- what a reader of traces reads in a text, line after line
@@ -95,6 +114,10 @@ told_in w = told w.output.text
 -- the next line says that this was guessed
 abbrev pub will_say : Writing → Guess → Bool
 will_say w g = has_guess g w.output.guesses.items
+
+-- what the next line says
+abbrev pub next_marks : Writing → Marks
+next_marks w = marks_of w.output.guesses.items
 
 -- ---- packets that were sent
 
@@ -117,7 +140,8 @@ may_settle settles by_growth p = settles && (by_growth || p.is_size_guessed)
 
 -- a line says of a packet what the log says; where the growth of the bytes in flight may show
 -- another size, the size and whether the packet is in flight may be others; a line with a size that
--- is a guess says so, unless all sizes are taken by that growth
+-- is a guess says so, unless all sizes are taken by that growth; each leave but that of the window
+-- is said to be a guess, since no log tells of leaves
 pub record IsLineOf (settles by_growth : Bool) (p : LoggedPacket) (l : SentLine) : Type 0 where
   pub space : l.space ≡ p.space
   pub number : l.number ≡ p.number
@@ -126,6 +150,7 @@ pub record IsLineOf (settles by_growth : Bool) (p : LoggedPacket) (l : SentLine)
   pub in_flight : may_settle settles by_growth p ≡ false → l.in_flight ≡ is_in_flight p.content
   pub guess : by_growth ≡ false → p.is_size_guessed ≡ true → Some l.size ≡ p.size
       → l.is_size_guessed ≡ true
+  pub leave : l.says_leave ≡ true
 
 -- the lines are those of the packets, one for one and in their order
 abbrev pub AreLinesOf : Bool → Bool → List LoggedPacket → List SentLine → Type 0

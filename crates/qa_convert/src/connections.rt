@@ -1,6 +1,8 @@
 //! Which of the connections in a log is converted.
-ghost use Rattle.std.specs.Prelude.{◌≡◌, ◌⊎◌, IfOk, option_map, true};
-ghost use Rattle.qa_convert.specs.Reading.{tells_apart};
+ghost use Rattle.std.specs.Prelude.{◌≡◌, IfOk, OnOk, option_map};
+ghost use Rattle.std.specs.String.{string_bytes};
+ghost use Rattle.qa_convert.specs.Connections.{is_of_chosen, none_named, number_of, numbered};
+ghost use Rattle.qa_convert.specs.Connections.{numbering_of, with_name};
 
 use std::alloc::{AllocError, Global};
 use std::collections::BTreeMap;
@@ -21,7 +23,9 @@ pub(crate) struct Connections {
 
 impl Connections {
     /// Before the first record, if that number is chosen. Takes no memory.
-    pub(crate) fn new(alloc: Global, chosen: u64) -> Connections {
+    pub(crate) fn new(alloc: Global, chosen: u64) -> Connections
+        ensures { numbering_of result ≡ none_named chosen }
+    {
         Connections {
             alloc,
             chosen,
@@ -36,9 +40,10 @@ impl Connections {
         group: Option<&str>,
         path: Option<&str>,
     ) -> Result<bool, AllocError>
-        ensures { IfOk result (λ has. (has ≡ true)
-            ⊎ (tells_apart (option_map (λ s. s.now) group.entry)
-            (option_map (λ s. s.now) path.entry) ≡ true)) }
+        ensures chosen { IfOk result (λ has. has ≡ is_of_chosen (numbering_of self.old)
+            (option_map (λ s. s.now) group.entry) (option_map (λ s. s.now) path.entry)) }
+        ensures named { OnOk result (numbering_of self.new ≡ numbered (numbering_of self.old)
+            (option_map (λ s. s.now) group.entry) (option_map (λ s. s.now) path.entry)) }
     {
         if group.is_none() && path.is_none() {
             return Ok(true);
@@ -56,7 +61,13 @@ impl Connections {
     }
 
     /// The number of a connection, by its name.
-    fn number(&mut self, name: String) -> Result<u64, AllocError> {
+    fn number(&mut self, name: String) -> Result<u64, AllocError>
+        ensures number { IfOk result (λ number. number
+            ≡ number_of (numbering_of self.old) (string_bytes name)) }
+        ensures named { OnOk result (numbering_of self.new
+            ≡ with_name (numbering_of self.old) (string_bytes name)) }
+        ensures chosen { self.new.chosen ≡ self.old.chosen }
+    {
         if let Some(number) = self.numbers.get(name.as_str()) {
             return Ok(*number);
         }

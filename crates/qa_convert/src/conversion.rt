@@ -1,14 +1,14 @@
 //! The second reading of a log: the lines of its events.
-ghost use Rattle.std.specs.Prelude.{◌≡◌, OnOk};
-ghost use Rattle.qa_convert.specs.AckDelays.{Answers, decoding_of};
-ghost use Rattle.qa_convert.specs.Acking.{Acknowledges};
+ghost use Rattle.std.specs.Prelude.{◌≡◌, IfOk, OnOk, false, true};
+ghost use Rattle.qa_convert.specs.AckDelays.{Answers, decoding_of, is_by_state};
 ghost use Rattle.qa_convert.specs.Losing.{Declares};
 ghost use Rattle.qa_convert.specs.Rules.{rules_of};
-ghost use Rattle.qa_convert.specs.Telling.{Writes, told_in};
+ghost use Rattle.qa_convert.specs.Telling.{Writes, next_marks, says_limited, told_in};
 
 use crate::dialects::{Absent, Dialect, Limited};
 use crate::event::{LoggedEvent, Said};
 use crate::groups::{About, Group};
+use crate::guess::Guess;
 use crate::handshake::{Keys, Turns};
 use crate::omission::Limit;
 use crate::place::Place;
@@ -120,7 +120,8 @@ pub(crate) struct Conversion {
 impl Conversion {
     /// Before the first group.
     pub(crate) fn new(terms: Terms, survey: &Survey, writing: Writing) -> Conversion
-        ensures { result.writing ≡ writing }
+        ensures terms { result.terms ≡ terms }
+        ensures writing { result.writing ≡ writing }
     {
         let none = PerSpace {
             initial: None,
@@ -157,8 +158,6 @@ impl Conversion {
     pub(crate) fn write(&mut self, group: Group) -> Result<(), NoLine>
         ensures sent { OnOk result (Writes self.old.known.settles_sizes
             self.old.terms.dialect.sizes_by_growth group.about (told_in self.old.writing)
-            (told_in self.new.writing)) }
-        ensures acks { OnOk result (Acknowledges group.about (told_in self.old.writing)
             (told_in self.new.writing)) }
         ensures lost { OnOk result (Declares self.old.writing.bare group.about
             group.beside.items (told_in self.old.writing) (told_in self.new.writing)) }
@@ -344,11 +343,17 @@ impl Conversion {
     }
 
     /// Whether the sender had not used its window, by that before an acknowledgment.
-    pub(crate) fn is_limited(&mut self, before: Option<u64>) -> Result<bool, AllocError>
+    pub(crate) fn is_limited(
+        &mut self,
+        limited: Limited,
+        before: Option<u64>,
+    ) -> Result<bool, AllocError>
+        ensures says { IfOk result (λ is_limited. is_by_state limited ≡ false
+            → says_limited is_limited (next_marks self.new.writing) ≡ true) }
         ensures told { OnOk result (told_in self.new.writing ≡ told_in self.old.writing) }
         ensures rules { OnOk result (rules_of self.new ≡ rules_of self.old) }
     {
-        match self.terms.dialect.limited {
+        match limited {
             Limited::ByState => Ok(self.is_app_limited),
             Limited::Never => Ok(false),
             Limited::ByWindow => self.is_limited_by_window(before),
@@ -357,13 +362,15 @@ impl Conversion {
 
     /// Whether an acknowledgment left the window as it was.
     fn is_limited_by_window(&mut self, before: Option<u64>) -> Result<bool, AllocError>
+        ensures says { IfOk result (λ is_limited. says_limited is_limited
+            (next_marks self.new.writing) ≡ true) }
         ensures told { OnOk result (told_in self.new.writing ≡ told_in self.old.writing) }
         ensures rules { OnOk result (rules_of self.new ≡ rules_of self.old) }
     {
         if before.is_none() || self.values.bytes.window != before {
             return Ok(false);
         }
-        self.writing.guess(crate::guess::Guess::LimitedByWindow)?;
+        self.writing.guess(Guess::LimitedByWindow)?;
         Ok(true)
     }
 }

@@ -83,8 +83,9 @@ impl Converting {
         survey: Survey,
         writing: Writing,
     ) -> Converting
-        ensures begins { Begins head (progress_of result) }
+        ensures begins { Begins head chosen terms.dialect (progress_of result) }
         ensures told { told_of result ≡ told_in writing }
+        ensures unit { result.conversion.writing.output.unit ≡ writing.output.unit }
     {
         let cursor = Cursor::new(alloc, &head, chosen);
         let order = if terms.dialect.received_stands_last {

@@ -3,6 +3,7 @@ ghost use Rattle.std.specs.Prelude.{◌≡◌, ◌≤◌, ◌^◌};
 ghost use Rattle.qa_convert.specs.AckDelays as delays;
 ghost use Rattle.qa_convert.specs.Outputs.{in_unit};
 
+use crate::dialects::Limited;
 use crate::output::in_unit_of;
 use crate::packet::LoggedAck;
 use qa_base::{PerSpace, Space, TimeUnit};
@@ -10,7 +11,8 @@ use qa_base::{PerSpace, Space, TimeUnit};
 /// The largest `ack_delay_exponent` (RFC 9000, section 18.2).
 const MAX_EXPONENT: u64 = 20;
 
-/// By what the delays of a log are decoded, and the unit in which its trace has them.
+/// By what the ACK frames of a log are read: how their delays are decoded, the unit in which the
+/// trace has them, and how it is known that the window was not used.
 #[derive(Clone, Copy)]
 pub(crate) struct Decoding {
     /// In which spaces the sender subtracts the peer's delay.
@@ -23,6 +25,8 @@ pub(crate) struct Decoding {
     pub(crate) unit: TimeUnit,
     /// Whether times are cut to whole milliseconds, so that reports may show another delay.
     pub(crate) has_cut_times: bool,
+    /// How it is known that the sender had not used its window.
+    pub(crate) limited: Limited,
 }
 
 impl Decoding {

@@ -1,4 +1,7 @@
 //! The order of a log, and whether it may be misread, by what was counted.
+ghost use Rattle.std.specs.Prelude.{IfSome};
+ghost use Rattle.qa_convert.specs.Dialects.{IsLike};
+
 use crate::dialects::{Absent, Dialect};
 use crate::looking::{LEAST_VALUES, Looking, Order};
 use itoa::Buffer;
@@ -83,7 +86,9 @@ impl Looking {
     ///
     /// Losses by themselves do not: in the tick of a clock they are often as near to the one packet
     /// as to the other.
-    pub(crate) fn corrected(&self, dialect: Dialect) -> Option<Dialect> {
+    pub(crate) fn corrected(&self, dialect: Dialect) -> Option<Dialect>
+        ensures { IfSome result (λ found. IsLike dialect found) }
+    {
         let taken = Order::of(&dialect);
         match self.are_before(LEAST_AGAINST_DIALECT) {
             Some(is_before) if is_before != (taken == Order::Before) => {
@@ -94,19 +99,32 @@ impl Looking {
     }
 
     /// The dialect of a log that names none.
-    pub(crate) fn dialect(&self, generic: Dialect, has_milliseconds: bool) -> Dialect {
-        let mut found = self.order(Order::of(&generic), LEAST).of_dialect(generic);
-        if self.leaves_out_zeros() {
-            found.absent = Absent::SameOrZero;
-        }
+    pub(crate) fn dialect(&self, generic: Dialect, has_milliseconds: bool) -> Dialect
+        ensures { IsLike generic result }
+    {
+        let ordered = self.order(Order::of(&generic), LEAST).of_dialect(generic);
+        let absent = if self.leaves_out_zeros() {
+            Absent::SameOrZero
+        } else {
+            ordered.absent
+        };
         let has_whole = LEAST_VALUES <= self.fineness.whole && !self.fineness.has_parts;
-        if has_whole || (has_milliseconds && self.fineness.has_parts_of_latest) {
-            found.slack_us = SLACK_OF_MILLISECONDS;
+        let slack_us = if has_whole || (has_milliseconds && self.fineness.has_parts_of_latest) {
+            SLACK_OF_MILLISECONDS
+        } else {
+            ordered.slack_us
+        };
+        let timer_early_us = if has_milliseconds && slack_us == SLACK_OF_MILLISECONDS {
+            EARLY_OF_MILLISECONDS
+        } else {
+            ordered.timer_early_us
+        };
+        Dialect {
+            absent,
+            slack_us,
+            timer_early_us,
+            ..ordered
         }
-        if has_milliseconds && found.slack_us == SLACK_OF_MILLISECONDS {
-            found.timer_early_us = EARLY_OF_MILLISECONDS;
-        }
-        found
     }
 
     /// What to say if most reports agree with the packets in no order.

@@ -5,7 +5,7 @@
 //! with the first Handshake packet that comes, and at the end of the handshake, each at the event
 //! behind which the reported bytes in flight have lost those of the space.
 ghost use Rattle.std.specs.Prelude.{◌≡◌, OnOk};
-ghost use Rattle.qa_convert.specs.Acking.{is_gone};
+ghost use Rattle.qa_convert.specs.AckDelays.{is_gone};
 ghost use Rattle.qa_convert.specs.Telling.{told_in};
 
 use crate::event::At;

@@ -1,6 +1,6 @@
 //! The header of a trace: what the log says of its sender, what is known of its stack, and what the
 //! user of the converter says.
-ghost use Rattle.std.specs.Prelude.{◌≡◌, OnOk};
+ghost use Rattle.std.specs.Prelude.{◌≡◌, IfOk, OnOk};
 ghost use Rattle.qa_convert.specs.Telling.{told_in};
 
 use crate::dialects::Dialect;
@@ -168,7 +168,8 @@ impl Choices {
         survey: &Survey,
         writing: &mut Writing,
     ) -> Result<Options, NoHeader>
-        ensures { OnOk result (told_in writing.new ≡ told_in writing.old) }
+        ensures told { OnOk result (told_in writing.new ≡ told_in writing.old) }
+        ensures unit { OnOk result (writing.new.output.unit ≡ writing.old.output.unit) }
     {
         let timer_late = match self.timer_late {
             Some(late) => late,
@@ -233,7 +234,7 @@ impl Choices {
         }
     }
 
-    /// The header of a log, and the size of its datagrams.
+    /// The header of a log, in the unit in which its lines are written.
     pub(crate) fn header(
         &self,
         role: Role,
@@ -241,10 +242,12 @@ impl Choices {
         survey: &Survey,
         writing: &mut Writing,
     ) -> Result<Header, NoHeader>
-        ensures { OnOk result (told_in writing.new ≡ told_in writing.old) }
+        ensures told { OnOk result (told_in writing.new ≡ told_in writing.old) }
+        ensures unit { OnOk result (writing.new.output.unit ≡ writing.old.output.unit) }
+        ensures header { IfOk result (λ header. header.unit ≡ writing.old.output.unit) }
     {
+        let unit = writing.output.unit;
         let options = self.options(dialect, survey, writing)?;
-        let unit = self.unit(dialect, survey);
         let size = datagram_size_of(dialect, survey, writing)?;
         let values = ConnectionValues {
             role,
@@ -256,11 +259,23 @@ impl Choices {
         if Format::Three <= self.format && !survey.has_window && !options.controller.is_reported() {
             writing.guess(Guess::NoWindow)?;
         }
+        Ok(self.made(unit, values, options)?)
+    }
+
+    /// A header of these values and options, in the version of the format.
+    fn made(
+        &self,
+        unit: TimeUnit,
+        values: ConnectionValues,
+        options: Options,
+    ) -> Result<Header, RangeFault>
+        ensures { IfOk result (λ header. header.unit ≡ unit) }
+    {
         let header = Header::in_unit(unit, values)?;
         match self.format {
             Format::One => Ok(header),
-            Format::Two => Ok(header.with(options)?),
-            Format::Three => Ok(header.choosing(options)?),
+            Format::Two => header.with(options),
+            Format::Three => header.choosing(options),
         }
     }
 }
@@ -306,7 +321,8 @@ fn limit_of(
     survey: &Survey,
     writing: &mut Writing,
 ) -> Result<Option<u64>, AllocError>
-    ensures { OnOk result (told_in writing.new ≡ told_in writing.old) }
+    ensures told { OnOk result (told_in writing.new ≡ told_in writing.old) }
+    ensures unit { OnOk result (writing.new.output.unit ≡ writing.old.output.unit) }
 {
     let by_packets = dialect.probes_by_ping || dialect.probes_by_room || dialect.probes_by_trigger;
     let logs_timers = dialect.logs_timers.unwrap_or(false) || survey.has_timers;
@@ -364,7 +380,8 @@ fn is_past(dialect: &Dialect, survey: &Survey, limit: u64) -> bool {
 
 /// The peer's `max_ack_delay` in the unit of the trace, if the log says it.
 fn max_ack_delay_of(survey: &Survey, writing: &mut Writing) -> Result<Option<u64>, AllocError>
-    ensures { OnOk result (told_in writing.new ≡ told_in writing.old) }
+    ensures told { OnOk result (told_in writing.new ≡ told_in writing.old) }
+    ensures unit { OnOk result (writing.new.output.unit ≡ writing.old.output.unit) }
 {
     match survey.of_peer.max_ack_delay {
         Some(delay) => Ok(Some(writing.output.in_unit(delay))),
@@ -381,7 +398,8 @@ fn initial_rtt_of(
     survey: &Survey,
     writing: &mut Writing,
 ) -> Result<Option<u64>, AllocError>
-    ensures { OnOk result (told_in writing.new ≡ told_in writing.old) }
+    ensures told { OnOk result (told_in writing.new ≡ told_in writing.old) }
+    ensures unit { OnOk result (writing.new.output.unit ≡ writing.old.output.unit) }
 {
     let said = survey.recovery.initial_rtt.unwrap_or(0);
     let found = if said != 0 {
@@ -410,7 +428,8 @@ fn window_of(
     controller: Controller,
     size: u64,
 ) -> Result<Option<u64>, AllocError>
-    ensures { OnOk result (told_in writing.new ≡ told_in writing.old) }
+    ensures told { OnOk result (told_in writing.new ≡ told_in writing.old) }
+    ensures unit { OnOk result (writing.new.output.unit ≡ writing.old.output.unit) }
 {
     let said = survey
         .recovery
@@ -436,7 +455,8 @@ fn datagram_size_of(
     survey: &Survey,
     writing: &mut Writing,
 ) -> Result<u64, AllocError>
-    ensures { OnOk result (told_in writing.new ≡ told_in writing.old) }
+    ensures told { OnOk result (told_in writing.new ≡ told_in writing.old) }
+    ensures unit { OnOk result (writing.new.output.unit ≡ writing.old.output.unit) }
 {
     let said = survey.recovery.max_datagram_size.unwrap_or(0);
     if LEAST_DATAGRAM <= said && said <= PacketSize::MAX {

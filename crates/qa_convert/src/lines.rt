@@ -4,9 +4,8 @@ ghost use Rattle.qa_convert.specs.Telling.{told, with_event};
 ghost use Rattle.std.specs.Prelude.{◌≡◌, ◌++◌, ◌∷◌, [], OnErr, OnOk, IfOk, true};
 ghost use Rattle.qa_base.specs.values.Events.{fits};
 ghost use Rattle.qa_convert.specs.OwnKeys.{AreEventLines, AreOwn, IsHeaderLine, IsOwnText};
-ghost use Rattle.qa_convert.specs.Marks.{says_guess};
+ghost use Rattle.qa_convert.specs.Marks.{marks_in};
 ghost use Rattle.qa_convert.specs.OwnKeys.{noted, own_text, with_own};
-ghost use Rattle.qa_convert.specs.declared.guess.Guess.TheVariants as a_guess;
 ghost use Rattle.qa_format.specs.format.Written.{written};
 ghost use Rattle.serde_json.specs.View.{members_view};
 ghost use Rattle.qa_format.specs.declared.line.Line.TheVariants as lines;
@@ -66,7 +65,7 @@ impl EventLines {
             ++ (noted (lines.Event event) (members_view own.entries) ++ 10 ∷ [])) }
         ensures err { OnErr result (self.new ≡ self.old) }
         ensures told { OnOk result (told self.new ≡ with_event (told self.old)
-            (says_guess a_guess.Size (own_text (members_view own.entries))) event) }
+            (marks_in (own_text (members_view own.entries))) event) }
     {
         let text = own_text_of(alloc, own)?;
         self.push_text(event, text.as_bytes())
@@ -84,7 +83,7 @@ impl EventLines {
             ++ (with_own (written (lines.Event event)) own.now ++ 10 ∷ [])) }
         ensures err { OnErr result (self.new ≡ self.old) }
         ensures told { OnOk result (told self.new ≡ with_event (told self.old)
-            (says_guess a_guess.Size own.now) event) }
+            (marks_in own.now) event) }
     {
         self.next.clear();
         push_event(&event, &mut self.next)?;

@@ -1,6 +1,7 @@
 //! What the first reading finds by counting: in which order a log is, and how fine its clock is.
 ghost use Rattle.std.specs.Prelude.{◌≡◌, is_some};
 ghost use Rattle.qa_base.specs.values.Events.{has_ranges};
+ghost use Rattle.qa_convert.specs.Dialects.{IsLike};
 
 use crate::dialects::Dialect;
 use crate::event::{At, LostPacket, Report};
@@ -46,7 +47,9 @@ impl Order {
     }
 
     /// The dialect with this order.
-    pub(crate) fn of_dialect(self, dialect: Dialect) -> Dialect {
+    pub(crate) fn of_dialect(self, dialect: Dialect) -> Dialect
+        ensures { IsLike dialect result }
+    {
         Dialect {
             received_stands_last: self == Order::Before,
             losses_stand_before: self == Order::LossesBefore,

@@ -5,7 +5,7 @@ ghost use Rattle.qa_base.specs.values.Events.{is_space};
 ghost use Rattle.qa_convert.specs.Losing.{ArePacketNumbers, Names, in_flight, in_space, is_among};
 ghost use Rattle.qa_convert.specs.Losing.{is_in, lost_in, packets_of, with_fit};
 ghost use Rattle.qa_convert.specs.Rules.{rules_of};
-ghost use Rattle.qa_convert.specs.Telling.{told_in, will_say};
+ghost use Rattle.qa_convert.specs.Telling.{next_marks, told_in};
 ghost use Rattle.qa_convert.specs.declared.guess.Guess.TheVariants as a_guess;
 
 use crate::conversion::{Conversion, LATE_BY_PROGRAM, latest_of};
@@ -379,8 +379,7 @@ impl Conversion {
     /// Writes the line of losses, if it names a packet.
     fn put_lost(&mut self, event: Event, first: Place, last: Place) -> Result<(), NoLine>
         ensures told { OnOk result (told_in self.new.writing
-            ≡ with_fit (told_in self.old.writing) (will_say self.old.writing a_guess.Size)
-            event) }
+            ≡ with_fit (told_in self.old.writing) (next_marks self.old.writing) event) }
         ensures bare { OnOk result (self.new.writing.bare ≡ self.old.writing.bare) }
         ensures rules { OnOk result (rules_of self.new ≡ rules_of self.old) }
     {

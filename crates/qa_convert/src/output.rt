@@ -1,15 +1,13 @@
 //! The lines of a trace, as they are written one after another.
 ghost use Rattle.qa_convert.specs.Telling.{told, with_event};
-ghost use Rattle.std.specs.Prelude.{◌≡◌, ◌++◌, ◌∷◌, [], Bool, OnErr, OnOk, IfOk, true};
+ghost use Rattle.std.specs.Prelude.{◌≡◌, ◌++◌, ◌∷◌, [], OnErr, OnOk, IfOk, true};
 ghost use Rattle.qa_base.specs.values.Events.{fits};
 ghost use Rattle.qa_convert.specs.Outputs.{are_of_line, guessed, in_unit};
-ghost use Rattle.qa_convert.specs.Outputs.{has_guess, own_members, with_guess};
-ghost use Rattle.qa_convert.specs.Guesses.{is_guess};
-ghost use Rattle.std.specs.List.{list_any};
+ghost use Rattle.qa_convert.specs.Outputs.{has_guess, marks_of, own_members, with_guess};
+ghost use Rattle.qa_convert.specs.Marks.{Marks};
 ghost use Rattle.qa_convert.specs.OwnKeys.{AreOwn, noted};
 ghost use Rattle.serde_json.specs.Data.{Members, no_members};
 ghost use Rattle.serde_json.specs.View.{members_view};
-ghost use Rattle.qa_convert.specs.declared.guess.Guess.TheVariants as a_guess;
 ghost use Rattle.qa_format.specs.declared.line.Line.TheVariants as lines;
 
 use crate::guess::{Guess, put_guesses};
@@ -80,7 +78,7 @@ impl Output {
 
     /// Whether the next line says this already.
     fn is_guessed(&self, guess: Guess) -> bool
-        ensures { result ≡ list_any (is_guess guess) self.now.guesses.items }
+        ensures { result ≡ has_guess guess self.now.guesses.items }
     {
         self.guesses.iter().any(|before| guess.is(*before))
     }
@@ -104,7 +102,7 @@ impl Output {
         ensures unit { self.new.unit ≡ self.old.unit }
         ensures places { self.new.has_places ≡ self.old.has_places }
         ensures told { OnOk result (told self.new.text ≡ with_event (told self.old.text)
-            (has_guess a_guess.Size self.old.guesses.items) event) }
+            (marks_of self.old.guesses.items) event) }
     {
         self.push(event, first, last)?;
         self.guesses.clear();
@@ -120,7 +118,7 @@ impl Output {
         ensures unit { self.new.unit ≡ self.old.unit }
         ensures places { self.new.has_places ≡ self.old.has_places }
         ensures told { OnOk result (told self.new.text ≡ with_event (told self.old.text)
-            (has_guess a_guess.Size self.old.guesses.items) event) }
+            (marks_of self.old.guesses.items) event) }
     {
         if self.has_places {
             let own = self.own_keys(first, last)?;
@@ -138,7 +136,7 @@ impl Output {
         ensures unit { self.new.unit ≡ self.old.unit }
         ensures places { self.new.has_places ≡ self.old.has_places }
         ensures told { OnOk result (told self.new.text ≡ with_event (told self.old.text)
-            (has_guess a_guess.Size self.old.guesses.items) event) }
+            (marks_of self.old.guesses.items) event) }
     {
         // What is kept stays for the line after this one.
         if self.guesses.is_empty() {
@@ -202,8 +200,8 @@ impl Output {
             ≡ self.old.text ++ (noted (lines.Event event) own ++ 10 ∷ []))) }
         ensures unit { self.new.unit ≡ self.old.unit }
         ensures places { self.new.has_places ≡ self.old.has_places }
-        ensures told { OnOk result ((guessed : Bool) × (told self.new.text
-            ≡ with_event (told self.old.text) guessed event)) }
+        ensures told { OnOk result ((marks : Marks) × (told self.new.text
+            ≡ with_event (told self.old.text) marks event)) }
     {
         let own = self.forgotten_keys(place, space, numbers)?;
         self.text.push(self.alloc, event, own)?;

@@ -2,10 +2,9 @@
 ghost use Rattle.std.specs.Prelude.{◌≡◌, ◌<◌, ◌≤◌, ◌++◌, ◌∷◌, [], IfOk, OnOk, length};
 ghost use Rattle.qa_convert.specs.AckDelays.{AddsAcks, AddsAllOrNone, IsDelayOf, TellsAcks};
 ghost use Rattle.qa_convert.specs.AckDelays.{decoding_of, lines_of};
-ghost use Rattle.qa_convert.specs.Acking.{AllOrNone};
 ghost use Rattle.qa_convert.specs.Losing.{Leaves, NamesOnly, lost_in, packets_of};
 ghost use Rattle.qa_convert.specs.Rules.{rules_of};
-ghost use Rattle.qa_convert.specs.Telling.{told_in};
+ghost use Rattle.qa_convert.specs.Telling.{next_marks, told_in};
 
 use crate::conversion::{Conversion, LATE_BY_PROGRAM};
 use crate::decoding::Decoding;
@@ -41,8 +40,6 @@ impl Conversion {
         before: Vec<LostAt>,
         beside: &[LoggedEvent],
     ) -> Result<(), NoLine>
-        ensures acks { OnOk result (AllOrNone packet.now.packet (told_in self.old.writing)
-            (told_in self.new.writing)) }
         ensures delays { OnOk result (AddsAllOrNone (decoding_of self.old) packet.now.packet
             (told_in self.old.writing) (told_in self.new.writing)) }
         ensures sent { OnOk result ((told_in self.new.writing).sent
@@ -70,7 +67,7 @@ impl Conversion {
         self.after_acks(packet, before, beside, later)
     }
 
-    /// By what the delays of ACK frames are decoded.
+    /// By what ACK frames are read.
     fn decoding(&self) -> Decoding
         ensures { result ≡ decoding_of self.now }
     {
@@ -80,6 +77,7 @@ impl Conversion {
             exponent: self.known.delay_exponent,
             unit: self.writing.output.unit,
             has_cut_times: self.known.has_cut_times,
+            limited: self.terms.dialect.limited,
         }
     }
 
@@ -354,7 +352,8 @@ impl Conversion {
             lost,
         };
         let (nanoseconds, delay) = self.came(packet, sent, answer)?;
-        let app_limited = self.is_limited(before.held.bytes.window)? && lost.is_empty();
+        let is_limited = self.is_limited(before.decoding.limited, before.held.bytes.window)?;
+        let app_limited = is_limited && lost.is_empty();
         let time = self.writing.next_time(nanoseconds)?;
         let answer = Ack {
             time,
@@ -373,7 +372,7 @@ impl Conversion {
     /// Writes the line of an acknowledgment, if it names a packet.
     fn put_ack(&mut self, place: Place, answer: Ack) -> Result<(), NoLine>
         ensures acks { OnOk result ((told_in self.new.writing).acks
-            ≡ (told_in self.old.writing).acks ++ lines_of answer) }
+            ≡ (told_in self.old.writing).acks ++ lines_of (next_marks self.old.writing) answer) }
         ensures sent { OnOk result ((told_in self.new.writing).sent
             ≡ (told_in self.old.writing).sent) }
         ensures lost { OnOk result ((told_in self.new.writing).lost

@@ -3,7 +3,8 @@ ghost use Rattle.std.specs.Prelude.{◌≡◌, ◌∷◌, [], ◌||◌, Bool, If
 ghost use Rattle.std.specs.Prelude.{true};
 ghost use Rattle.qa_convert.specs.Rules.{rules_of};
 ghost use Rattle.qa_convert.specs.Sending.{AreOf, IsOf, Wrote};
-ghost use Rattle.qa_convert.specs.Telling.{Sends, sized, told_in, will_say};
+ghost use Rattle.qa_convert.specs.Telling.{Sends, next_marks, says_leave, sized, told_in};
+ghost use Rattle.qa_convert.specs.Telling.{will_say};
 ghost use Rattle.qa_convert.specs.declared.guess.Guess.{Guess as AGuess};
 ghost use Rattle.qa_convert.specs.declared.packet.LoggedPacket.{LoggedPacket as APacket};
 ghost use Rattle.qa_qlog.specs.Frames.{is_in_flight};
@@ -235,6 +236,8 @@ impl Conversion {
     /// By what leave a packet of this size is sent: by a probe if one is allowed, else by the
     /// window if it has room, else by the entry into recovery.
     fn permission(&mut self, size: u64) -> Result<Permission, AllocError>
+        ensures says { IfOk result (λ permission. says_leave permission
+            (next_marks self.new.writing) ≡ true) }
         ensures says_more { OnOk result ((g : AGuess) → will_say self.old.writing g ≡ true
             → will_say self.new.writing g ≡ true) }
         ensures told { OnOk result (told_in self.new.writing ≡ told_in self.old.writing) }

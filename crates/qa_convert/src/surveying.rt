@@ -2,6 +2,7 @@
 ghost use Rattle.std.specs.Prelude.{◌≡◌, IfOk, None};
 ghost use Rattle.json.specs.Json.{Json};
 ghost use Rattle.json.specs.Find.{BeginsWith};
+ghost use Rattle.qa_convert.specs.Connections.{none_named, numbering_of};
 ghost use Rattle.qa_convert.specs.Reading.{Reads, at_of, clock_before, next_index};
 
 use crate::clock::Clock;
@@ -75,6 +76,7 @@ impl Cursor {
     /// Before the first record of a log with this head, if that connection is chosen.
     pub(crate) fn new(alloc: Global, head: &Head, chosen: u64) -> Cursor
         ensures clock { result.clock ≡ clock_before head.now }
+        ensures connections { numbering_of result.connections ≡ none_named chosen }
         ensures index { result.index ≡ 0 }
     {
         Cursor {
@@ -119,6 +121,8 @@ impl Cursor {
         ensures at { result ≡ at_of place self.old.index self.old.clock None }
         ensures index { self.new.index ≡ next_index self.old.index }
         ensures clock { self.new.clock ≡ self.old.clock }
+        ensures connections { numbering_of self.new.connections
+            ≡ numbering_of self.old.connections }
     {
         let index = self.index;
         self.index = self.index.saturating_add(1);

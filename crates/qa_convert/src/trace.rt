@@ -1,7 +1,8 @@
 //! A log as a trace: it is read twice, text by text.
 ghost use Rattle.std.specs.Prelude.{◌≡◌, [], IfOk, OnOk, Some};
 ghost use Rattle.json.specs.Json.{Json, document};
-ghost use Rattle.qa_convert.specs.OwnKeys.{AreEventLines, IsHeaderLine};
+ghost use Rattle.qa_convert.specs.Dialects.{IsLike};
+ghost use Rattle.qa_convert.specs.OwnKeys.{AreEventLines, IsHeaderLine, SaysUnit};
 ghost use Rattle.qa_convert.specs.Passing.{Closes};
 ghost use Rattle.qa_convert.specs.Taking.{Begins, Takes, TakesUnread};
 ghost use Rattle.qa_convert.specs.Telling.{nothing, told};
@@ -87,7 +88,8 @@ pub struct Asked {
     pub has_places: bool,
 }
 
-/// The first reading of a log. Nothing is written yet: its end may decide its first line.
+/// The first reading of a log. Nothing is written yet: its end may decide its first line. Contracts
+/// see what is asked of its trace.
 #[derive(Drop)]
 pub struct FirstReading {
     alloc: Global,
@@ -96,9 +98,19 @@ pub struct FirstReading {
     surveying: Surveying,
 }
 
+impl Model for FirstReading {
+    ghost use Rattle.qa_convert.specs.declared.trace.Asked.{Asked};
+
+    ghost Value = { Asked };
+
+    ghost view = { λ r. r.asked };
+}
+
 impl FirstReading {
     /// Before the first record of a log with this head.
-    pub fn new(alloc: Global, head: Head, asked: Asked) -> FirstReading {
+    pub fn new(alloc: Global, head: Head, asked: Asked) -> FirstReading
+        ensures { result ≡ asked }
+    {
         let survey = Survey::new(alloc, &asked.dialect, asked.role);
         let surveying = Surveying::new(alloc, head, asked.connection, survey);
         FirstReading {
@@ -111,14 +123,18 @@ impl FirstReading {
 
     /// Looks at the next text, which begins there. `NotJson` leaves all as it was; after any other
     /// error it is of no use.
-    pub fn push(&mut self, text: &[u8], place: Place) -> Result<(), NoRecord> {
+    pub fn push(&mut self, text: &[u8], place: Place) -> Result<(), NoRecord>
+        ensures { self.new ≡ self.old }
+    {
         let result = self.surveying.push(&mut self.room, text, place);
         self.room.clear();
         result
     }
 
     /// Passes over a text that is not JSON, and that says nothing of packets.
-    pub fn push_unread(&mut self, place: Place) {
+    pub fn push_unread(&mut self, place: Place)
+        ensures { self.new ≡ self.old }
+    {
         self.surveying.push_unread(place);
     }
 
@@ -129,7 +145,9 @@ impl FirstReading {
 
     /// The log ends: the second reading. `head` is that of the log again.
     pub fn second(self, head: Head) -> Result<SecondReading, NoTrace>
-        ensures begins { IfOk result (λ second. Begins head second.2) }
+        ensures begins { IfOk result (λ second. Begins head self.connection
+            self.dialect second.2) }
+        ensures unit { IfOk result (λ second. SaysUnit second.2.rules.decoding.unit second.0) }
         ensures told { IfOk result (λ second. told second.1 ≡ nothing) }
     {
         let FirstReading {
@@ -171,7 +189,9 @@ impl FirstReading {
 }
 
 /// The dialect of a log, in the order in which the log is.
-fn dialect_by(survey: &Survey, asked: Dialect) -> Dialect {
+fn dialect_by(survey: &Survey, asked: Dialect) -> Dialect
+    ensures { IsLike asked result }
+{
     if asked.name == GENERIC.name {
         return survey.looking.dialect(asked, survey.has_milliseconds);
     }

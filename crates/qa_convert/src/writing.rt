@@ -109,7 +109,8 @@ impl Writing {
 
     /// Finds that no probe timeout shows, and how late timers may be in microseconds.
     pub(crate) fn find_unseen(&mut self, limit: u64) -> Result<(), AllocError>
-        ensures { OnOk result (told_in self.new ≡ told_in self.old) }
+        ensures told { OnOk result (told_in self.new ≡ told_in self.old) }
+        ensures unit { OnOk result (self.new.output.unit ≡ self.old.output.unit) }
     {
         let text = format!(in self.alloc;
             "no probe timeouts; of one that does not show, the next \
@@ -122,7 +123,8 @@ impl Writing {
     /// Finds that a clock of whole milliseconds is off by so many timeouts in a row, and how late
     /// timers may be in microseconds.
     pub(crate) fn find_off(&mut self, count: u64, limit: u64) -> Result<(), AllocError>
-        ensures { OnOk result (told_in self.new ≡ told_in self.old) }
+        ensures told { OnOk result (told_in self.new ≡ told_in self.old) }
+        ensures unit { OnOk result (self.new.output.unit ≡ self.old.output.unit) }
     {
         let text = format!(in self.alloc;
             "whole milliseconds, and {count} probe timeouts in a \

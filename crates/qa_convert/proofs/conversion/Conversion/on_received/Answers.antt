@@ -1,7 +1,7 @@
 use Rattle.std.proofs.Common.{◌≡◌, ◌∙◌, ◌++◌, ap, ap₂, subst}
 use Rattle.std.proofs.lemmas.List.{take-append-drop}
 use Rattle.std.proofs.lemmas.Result.{on_ok_weaker}
-use Rattle.qa_convert.proofs.Delayed.{keys_added, only_added}
+use Rattle.qa_convert.proofs.Delayed.{only_added}
 use Rattle.qa_convert.proofs.Losses.{received_only}
 use Rattle.qa_convert.specs.AckDelays.{TellsAcks, decoding_of}
 use Rattle.qa_convert.specs.Telling.{Told, told_in}
@@ -21,11 +21,6 @@ returns-clause-delays c =
     c.decoding-decoding.ensures c.in_ok-write_acks.ensures.acks)
     same)
     c.after_acks.ensures.acks
-
-pub returns-clause-acks : goal.returns-clause-acks
-returns-clause-acks c =
-    on_ok_weaker c.after_acks.result (keys_added (decoding_of c.args.self.now) c.args.packet.now.packet (told_in c.args.self.now.writing) (told_in c.after_acks.new.self.writing))
-    (returns-clause-delays c)
 
 pub returns-clause-lost : goal.returns-clause-lost
 returns-clause-lost c =

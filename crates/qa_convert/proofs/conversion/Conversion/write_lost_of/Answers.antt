@@ -2,8 +2,7 @@ use Rattle.std.proofs.Common.{◌≡◌, ◌∙◌, ap, refl}
 use Rattle.qa_base.specs.declared.event.Event.TheVariants as event
 use Rattle.qa_convert.proofs.Losses.{none_of_space, space_line, space_none}
 use Rattle.qa_convert.specs.Losing.{packets_of, with_fit}
-use Rattle.qa_convert.specs.Telling.{told_in, will_say}
-use Rattle.qa_convert.specs.declared.guess.Guess.TheVariants as a_guess
+use Rattle.qa_convert.specs.Telling.{next_marks, told_in}
 use Rattle.qa_convert.proofs.conversion.Conversion.write_lost_of.Goals as goal
 
 pub returns-in_default-clause-lost : goal.returns-in_default-clause-lost
@@ -19,7 +18,7 @@ returns-clause-lost c =
     let s = c.args.space in
     let ranges = c.in_ok-ranges.ranges in
     let spans = rw c.deref.ensures.value at c.in_ok-ranges.ensures in
-    let guessed = will_say c.next_time.new.self a_guess.Size in
+    let guessed = next_marks c.next_time.new.self in
     let told : told_in c.put_lost.new.self.writing ≡ with_fit (told_in c.args.self.now.writing) guessed (event.Lost c.in_ok-time.time s ranges) =
     c.in_ok-put_lost.ensures.told ∙ ap (λ t. with_fit t guessed (event.Lost c.in_ok-time.time s ranges)) c.in_ok-time.ensures.told in
     space_line guessed c.in_ok-time.time s ranges (packets_of c.args.losses.now) _ _

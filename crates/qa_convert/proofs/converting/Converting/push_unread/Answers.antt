@@ -9,5 +9,6 @@ returns-then-not-is_report c =
     record {
       index = c.pass-at.ensures.index;
       clock = c.pass-at.ensures.clock;
+      connections = c.pass-at.ensures.connections;
       goes = rw c.if-not-is_report.true (goes_none (progress_of old) (progress_of (record old { cursor = c.pass-at.new.self })) (told_of old) (told_of old) refl refl refl refl refl refl refl);
     }

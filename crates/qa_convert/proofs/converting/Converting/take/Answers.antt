@@ -1,9 +1,10 @@
-use Rattle.std.proofs.Common.{◌≡◌, inl, [], refl, subst}
+use Rattle.std.proofs.Common.{◌≡◌, [], refl, subst}
 use Rattle.std.proofs.lemmas.Result.{on_ok_weaker}
 use Rattle.qa_qlog.specs.Records.{data_of}
 use Rattle.qa_convert.proofs.Goes.{goes_none}
-use Rattle.qa_convert.proofs.Read.{says_none}
-use Rattle.qa_convert.specs.Reading.{at_of, clock_after, events_at, name_of, next_index}
+use Rattle.qa_convert.proofs.Read.{says_none, says_some}
+use Rattle.qa_convert.specs.Connections.{numbering_of}
+use Rattle.qa_convert.specs.Reading.{at_of, chosen_only, clock_after, connections_after, events_at, name_of, next_index}
 use Rattle.qa_convert.specs.Taking.{Goes, progress_of, told_of}
 use Rattle.qa_convert.specs.declared.event.At.{At}
 use Rattle.qa_convert.proofs.converting.Converting.take.Goals as goal
@@ -20,8 +21,10 @@ returns-in-Some c j begins =
       says = reads.says;
       index = let index : new.cursor.index ≡ next_index old.cursor.index = rw c.take_event.ensures.cursor reads.index in index;
       clock = let clock : new.cursor.clock ≡ clock_after old.cursor.clock reads.event = rw c.take_event.ensures.cursor reads.clock in clock;
+      connections =
+          let connections : numbering_of new.cursor.connections ≡ connections_after old.head j (name_of reads.event) (numbering_of old.cursor.connections) = rw c.take_event.ensures.cursor reads.connections in connections;
       all = given.0;
-      are = rw finds.0 (inl given.1);
+      are = says_some old.head j (chosen_only old.head j (numbering_of old.cursor.connections) (name_of reads.event)) c.in-Some.named.name given.0 finds.0 given.1;
       goes =
           let goes : Goes (events_at c.in-Some.named.at given.0) (progress_of old) (told_of old) (progress_of new) (told_of new) = record { head = given.2.head; retry = given.2.retry; rules = given.2.rules; passes = given.2.passes } in
           subst (λ (at : At). Goes (events_at at given.0) (progress_of old) (told_of old) (progress_of new) (told_of new)) finds.1 goes;
@@ -37,7 +40,8 @@ returns-in-None c j begins =
       says = reads.says;
       index = reads.index;
       clock = reads.clock;
+      connections = reads.connections;
       all = [];
-      are = says_none old.head j (at_of c.args.place old.cursor.index old.cursor.clock reads.event) (name_of reads.event) reads.finds;
+      are = says_none old.head j (at_of c.args.place old.cursor.index old.cursor.clock reads.event) (chosen_only old.head j (numbering_of old.cursor.connections) (name_of reads.event)) reads.finds;
       goes = goes_none (progress_of old) (progress_of (record old { cursor = c.next.new.self })) (told_of old) (told_of old) refl refl refl refl refl refl refl;
     }

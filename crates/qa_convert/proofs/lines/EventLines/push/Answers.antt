@@ -3,10 +3,9 @@ use Rattle.std.specs.Prelude.{OnOk}
 use Rattle.serde_json.specs.View.{members_view}
 use Rattle.qa_format.specs.declared.line.Line.TheVariants as lines
 use Rattle.qa_format.specs.format.Written.{written}
-use Rattle.qa_convert.specs.Marks.{says_guess}
+use Rattle.qa_convert.specs.Marks.{marks_in}
 use Rattle.qa_convert.specs.OwnKeys.{noted, own_text, with_own}
 use Rattle.qa_convert.specs.Telling.{told, with_event}
-use Rattle.qa_convert.specs.declared.guess.Guess.TheVariants as guess
 use Rattle.qa_convert.proofs.Spliced.{noted_with, with_line}
 use Rattle.qa_convert.proofs.lines.EventLines.push.Goals as goal
 
@@ -21,5 +20,5 @@ returns-clause-ok c =
 pub returns-clause-told : goal.returns-clause-told
 returns-clause-told c =
     let keys : c.as_bytes.result.now ≡ own_text (members_view c.args.own.entries) = c.as_bytes.ensures.value ∙ c.in_ok-text.ensures in
-    subst (λ (t : List ℕ). OnOk c.push_text.result (told c.push_text.new.self ≡ with_event (told c.args.self.now) (says_guess guess.Size t) c.args.event))
+    subst (λ (t : List ℕ). OnOk c.push_text.result (told c.push_text.new.self ≡ with_event (told c.args.self.now) (marks_in t) c.args.event))
     keys c.push_text.ensures.told

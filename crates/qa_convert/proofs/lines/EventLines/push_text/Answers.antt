@@ -1,8 +1,7 @@
 use Rattle.std.proofs.Common.{◌≡◌, ◌∙◌, ◌++◌, ℕ, List, ap, ap₂, sym}
-use Rattle.qa_convert.specs.Marks.{says_guess}
+use Rattle.qa_convert.specs.Marks.{marks_in}
 use Rattle.qa_convert.specs.OwnKeys.{noted, with_own}
 use Rattle.qa_convert.specs.Telling.{told, with_event}
-use Rattle.qa_convert.specs.declared.guess.Guess.TheVariants as guess
 use Rattle.qa_convert.proofs.Spliced.{noted_with}
 use Rattle.qa_convert.proofs.Traces.{one_more, one_more_told}
 use Rattle.qa_convert.proofs.lines.EventLines.push_text.Goals as goal
@@ -28,4 +27,4 @@ returns-clause-told c =
     let after = rw same at c.in_ok-push_with_own.ensures in
     rw after.ok
     (one_more_told c.self.inside.text.items (x, own.0) c.self.invariant (tt, (c.in_ok-push_event.ensures.proper, own.1, after.short))
-    ∙ ap₂ (λ (bs keys : List ℕ). with_event (told bs) (says_guess guess.Size keys) c.args.event) c.self.view_is (sym own.2))
+    ∙ ap₂ (λ (bs keys : List ℕ). with_event (told bs) (marks_in keys) c.args.event) c.self.view_is (sym own.2))

@@ -1,17 +1,16 @@
-use Rattle.std.proofs.Common.{◌≡◌, ◌∙◌, ◌==◌, Bool, List, [], ◌∷◌, true, length, ap, refl, subst, sym, arith}
+use Rattle.std.proofs.Common.{◌≡◌, ◌∙◌, ◌==◌, List, [], ◌∷◌, true, length, ap, refl, subst, sym, arith}
 use Rattle.std.proofs.lemmas.Bool.Decides.{Decides-eqb}
 use Rattle.std.specs.Prelude.{OnOk}
 use Rattle.serde_json.specs.Data.{no_members}
 use Rattle.qa_format.specs.declared.line.Line.TheVariants as lines
 use Rattle.qa_format.specs.format.Written.{written}
-use Rattle.qa_convert.specs.Marks.{says_guess}
-use Rattle.qa_convert.specs.Outputs.{guessed, has_guess}
+use Rattle.qa_convert.specs.Marks.{Marks, marks_in}
+use Rattle.qa_convert.specs.Outputs.{guessed, marks_of}
 use Rattle.qa_convert.specs.OwnKeys.{noted, own_text, with_own}
 use Rattle.qa_convert.specs.Telling.{told, with_event}
 use Rattle.qa_convert.specs.declared.guess.Guess.{Guess}
-use Rattle.qa_convert.specs.declared.guess.Guess.TheVariants as guess
 use Rattle.qa_convert.proofs.Guessed.{guessed_are_own}
-use Rattle.qa_convert.proofs.Marked.{guesses_said, none_said}
+use Rattle.qa_convert.proofs.Marked.{guesses_said, no_marks}
 use Rattle.qa_convert.proofs.Spliced.{noted_with, with_line}
 use Rattle.qa_convert.proofs.output.Output.push_guessed.Goals as goal
 
@@ -32,8 +31,8 @@ returns-clause-told c =
     let gs = c.args.self.now.guesses.items in
     let keys : c.as_bytes.result.now ≡ own_text (guessed gs no_members) =
     c.as_bytes.ensures.text ∙ ap (λ gs. own_text (guessed gs no_members)) (c.in_ok-renew.ensures.ok ∙ c.deref.ensures.value) in
-    subst (λ (says : Bool). OnOk c.push_text-2.result (told c.push_text-2.new.self ≡ with_event (told c.args.self.now.text) says c.args.event))
-    (ap (says_guess guess.Size) keys ∙ guesses_said gs (guessed_are_own gs)) c.push_text-2.ensures.told
+    subst (λ (marks : Marks). OnOk c.push_text-2.result (told c.push_text-2.new.self ≡ with_event (told c.args.self.now.text) marks c.args.event))
+    (ap marks_in keys ∙ guesses_said gs (guessed_are_own gs)) c.push_text-2.ensures.told
 
 empty_of : (gs : List Guess) → length gs ≡ 0 → gs ≡ []
 empty_of [] none = refl
@@ -44,5 +43,5 @@ returns-then-is_empty-clause-told c =
     let gs = c.args.self.now.guesses.items in
     let few : (length gs == 0) ≡ true = sym (ap (λ n. n == 0) c.args.self.now.guesses.ok.0) ∙ (sym c.is_empty.ensures ∙ c.if-is_empty.true) in
     let none : gs ≡ [] = empty_of gs ((Decides-eqb (length gs) 0).0 few) in
-    subst (λ (says : Bool). OnOk c.push_text.result (told c.push_text.new.self ≡ with_event (told c.args.self.now.text) says c.args.event))
-    (none_said guess.Size ∙ sym (ap (has_guess guess.Size) none)) c.push_text.ensures.told
+    subst (λ (marks : Marks). OnOk c.push_text.result (told c.push_text.new.self ≡ with_event (told c.args.self.now.text) marks c.args.event))
+    (no_marks ∙ sym (ap marks_of none)) c.push_text.ensures.told

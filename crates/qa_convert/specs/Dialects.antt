@@ -1,0 +1,13 @@
+-- What a log shows beside its dialect: its order, what a value means that is left out, and how fine
+-- its times are. All else is as the dialect says.
+use Rattle.std.specs.Prelude.{◌≡◌}
+use Rattle.qa_convert.specs.declared.dialects.Dialect.{Dialect}
+
+-- by the dialect that was found, delays, sizes, reports and limits are read as by the one that was
+-- asked for
+pub record IsLike (asked found : Dialect) : Type 0 where
+  pub subtracts : found.subtracts_delay ≡ asked.subtracts_delay
+  pub is_encoded : found.delay_is_encoded ≡ asked.delay_is_encoded
+  pub limited : found.limited ≡ asked.limited
+  pub by_growth : found.sizes_by_growth ≡ asked.sizes_by_growth
+  pub reports_first : found.metrics_stand_before ≡ asked.metrics_stand_before
