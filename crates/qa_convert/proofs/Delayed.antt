@@ -38,7 +38,7 @@ one_added d s a m x t u space ranges delay limited told =
       told = told;
     }
 
--- that the window was not used is said with more guesses, too, and if it is not said
+-- if it is said to be a guess that the window was not used, more guesses do not change that
 pub limit_said : (is_limited is_alone : Bool) (a b : Writing) → ((g : Guess) → will_say a g ≡ true → will_say b g ≡ true)
     → says_limited is_limited (next_marks a) ≡ true → says_limited (is_limited && is_alone) (next_marks b) ≡ true
 limit_said true true a b more says = more guess.LimitedByWindow says

@@ -8,9 +8,11 @@ use Rattle.qa_convert.specs.AckDelays.{AddsAllOrNone, Answers}
 use Rattle.qa_convert.specs.GroupLines.{AreAcked, TellsAcks, TellsOf, TellsSent, come_in, come_of, lost_by, lost_in_front, lost_of}
 use Rattle.qa_convert.specs.Losing.{Declares, NamesOnly, lost_in, packets_of}
 use Rattle.qa_convert.specs.Rules.{Rules}
-use Rattle.qa_convert.specs.Telling.{AckLine, AreLinesOf, SentLine, Told, Writes, sent_in, sent_of, sized}
+use Rattle.qa_convert.specs.Telling.{AckLine, AreLinesOf, SentLine, TimerLine, Told, Writes, sent_in, sent_of, sized}
+use Rattle.qa_convert.specs.Timers.{AddsTimers, AreExpired, Expires, expired_in, expired_of}
 use Rattle.qa_convert.specs.declared.bare.Bare.{Bare}
 use Rattle.qa_convert.specs.declared.decoding.Decoding.{Decoding}
+use Rattle.qa_convert.specs.declared.event.Expiry.{Expiry}
 use Rattle.qa_convert.specs.declared.event.LoggedEvent.{LoggedEvent}
 use Rattle.qa_convert.specs.declared.event.LostPacket.{LostPacket}
 use Rattle.qa_convert.specs.declared.groups.About.{About}
@@ -25,6 +27,7 @@ tells_none r before after same = rw same (record {
   sent = ([], sym (append-nil before.sent), refl);
   acks = ([], sym (append-nil before.acks), refl);
   lost = only_none [] [] before before (λ s n. omega arith) refl;
+  timers = ([], sym (append-nil before.timers), refl);
 })
 
 -- ---- one group
@@ -68,12 +71,24 @@ lost_one bare (about.Lost ls) es before after all = names_only bare (packets_of 
 lost_one bare (about.Expired at timer) es before after all = names_only bare (lost_in es) before after all
 lost_one bare (about.Other e) es before after same = only_none (lost_in es) [] before after (λ s n. omega arith) same
 
+no_timers : (before after : Told) → after.timers ≡ before.timers → AddsTimers [] before after
+no_timers before after same = ([], same ∙ sym (append-nil before.timers), refl)
+
+timers_one : (what : About) (before after : Told) → Expires what before after → AddsTimers (expired_in what ++ []) before after
+timers_one (about.Sent ps) before after same = no_timers before after same
+timers_one (about.Received p ls) before after same = no_timers before after same
+timers_one (about.Lost ls) before after same = no_timers before after same
+timers_one (about.Expired at e) before after adds = adds
+timers_one (about.Other e) before after same = no_timers before after same
+
 pub tells_one : (r : Rules) (bare : PerSpace Bare) (g : Group) (before after : Told) → Writes r.settles r.by_growth g.about before after
-    → Answers r.decoding g.about before after → Declares bare g.about g.beside.items before after → TellsOf r (g ∷ []) before after
-tells_one r bare g before after writes acks lost = record {
+    → Answers r.decoding g.about before after → Declares bare g.about g.beside.items before after → Expires g.about before after
+    → TellsOf r (g ∷ []) before after
+tells_one r bare g before after writes acks lost timers = record {
   sent = sent_one r.settles r.by_growth g.about before after writes;
   acks = acks_one r.decoding g.about before after acks;
   lost = rw (append-nil (lost_by g)) (lost_one bare g.about g.beside.items before after lost);
+  timers = timers_one g.about before after timers;
 }
 
 -- ---- groups behind others
@@ -108,9 +123,25 @@ both_acked d gs hs a b c one two =
 both_lost : (ps qs : List LostPacket) (a b c : Told) → NamesOnly ps a b → NamesOnly qs b c → NamesOnly (ps ++ qs) a c
 both_lost ps qs a b c one two = leaves_then (ps ++ qs) qs [] a b c (leaves_more ps [] qs a b one) two
 
+expired_then : (es fs : List Expiry) (ks ls : List TimerLine) → AreExpired es ks → AreExpired fs ls → AreExpired (es ++ fs) (ks ++ ls)
+expired_then [] fs ks ls none are = rw none are
+expired_then (e ∷ es) fs ks ls (inl left) are = inl (expired_then es fs ks ls left are)
+expired_then (e ∷ es) fs ks ls (inr one) are =
+    let more = one.1 in inr (one.0, more ++ ls, ap (λ xs. xs ++ ls) one.2, one.3, expired_then es fs more ls one.4 are)
+
+both_timers : (gs hs : List Group) (a b c : Told) → AddsTimers (expired_of gs) a b → AddsTimers (expired_of hs) b c → AddsTimers (expired_of (gs ++ hs)) a c
+both_timers gs hs a b c one two =
+    let ks = one.0 in
+    let ls = two.0 in (
+      ks ++ ls,
+      two.1 ∙ ap (λ xs. xs ++ ls) one.1 ∙ append_assoc a.timers ks ls,
+      rw (flat_map-append (λ (g : Group). expired_in g.about) gs hs) (expired_then (expired_of gs) (expired_of hs) ks ls one.2 two.2),
+    )
+
 pub both_tell : (r : Rules) (gs hs : List Group) (a b c : Told) → TellsOf r gs a b → TellsOf r hs b c → TellsOf r (gs ++ hs) a c
 both_tell r gs hs a b c one two = record {
   sent = both_sent r gs hs a b c one.sent two.sent;
   acks = both_acked r.decoding gs hs a b c one.acks two.acks;
   lost = rw (flat_map-append lost_by gs hs) (both_lost (lost_of gs) (lost_of hs) a b c one.lost two.lost);
+  timers = both_timers gs hs a b c one.timers two.timers;
 }

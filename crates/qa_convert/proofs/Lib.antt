@@ -23,5 +23,6 @@ pub mod Read
 pub mod Sent
 pub mod Spliced
 pub mod Texts
+pub mod Timed
 pub mod Traces
 pub mod Units

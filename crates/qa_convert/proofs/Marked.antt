@@ -1,6 +1,7 @@
 -- The line of an event says what its own keys say of guesses.
 use Rattle.std.proofs.Common.{◌≡◌, ◌∙◌, ◌||◌, ℕ, List, [], ◌∷◌, Bool, true, false, Err, codes, Ordering, Less, Equal, Greater, refl, sym, ap, ap₂}
 use Rattle.std.specs.Cmp.Lexicographic.{slice_cmp}
+use Rattle.std.specs.List.{AllByRecursion}
 use Rattle.std.specs.Ordering.{nat_cmp}
 use Rattle.std.specs.Prelude.{if◌then◌else◌}
 use Rattle.std.specs.Str.{bytes_eq, is_utf8}
@@ -74,162 +75,121 @@ noted_says g e own proper are =
 
 -- ---- what was guessed
 
+all_guesses : List Guess
+all_guesses =
+    guess.DatagramByWindow ∷ guess.DatagramByPacket ∷ guess.DatagramLeast ∷ guess.NoMaxAckDelay ∷ guess.NoWindow ∷ guess.HiddenWindow ∷
+    guess.InitialRtt ∷ guess.ProbeByCount ∷ guess.ProbeByPing ∷ guess.ProbeByRoom ∷ guess.ProbeByTrigger ∷ guess.Size ∷ guess.SizeByGrowth ∷
+    guess.TimerSpace ∷ guess.LossTimer ∷ guess.Discard ∷ guess.Confirmed ∷ guess.Delay ∷ guess.Arrival ∷ guess.Moment ∷ guess.LimitedByWindow ∷
+    guess.LeaveProbe ∷ guess.LeaveRecovery ∷ guess.TimeBack ∷ []
+
+one_of : (P : Guess → Type 0) → AllByRecursion P all_guesses → (g : Guess) → P g
+unfolding all_guesses
+one_of P all guess.DatagramByWindow = all.0
+one_of P all guess.DatagramByPacket = all.1.0
+one_of P all guess.DatagramLeast = all.1.1.0
+one_of P all guess.NoMaxAckDelay = all.1.1.1.0
+one_of P all guess.NoWindow = all.1.1.1.1.0
+one_of P all guess.HiddenWindow = all.1.1.1.1.1.0
+one_of P all guess.InitialRtt = all.1.1.1.1.1.1.0
+one_of P all guess.ProbeByCount = all.1.1.1.1.1.1.1.0
+one_of P all guess.ProbeByPing = all.1.1.1.1.1.1.1.1.0
+one_of P all guess.ProbeByRoom = all.1.1.1.1.1.1.1.1.1.0
+one_of P all guess.ProbeByTrigger = all.1.1.1.1.1.1.1.1.1.1.0
+one_of P all guess.Size = all.1.1.1.1.1.1.1.1.1.1.1.0
+one_of P all guess.SizeByGrowth = all.1.1.1.1.1.1.1.1.1.1.1.1.0
+one_of P all guess.TimerSpace = all.1.1.1.1.1.1.1.1.1.1.1.1.1.0
+one_of P all guess.LossTimer = all.1.1.1.1.1.1.1.1.1.1.1.1.1.1.0
+one_of P all guess.Discard = all.1.1.1.1.1.1.1.1.1.1.1.1.1.1.1.0
+one_of P all guess.Confirmed = all.1.1.1.1.1.1.1.1.1.1.1.1.1.1.1.1.0
+one_of P all guess.Delay = all.1.1.1.1.1.1.1.1.1.1.1.1.1.1.1.1.1.0
+one_of P all guess.Arrival = all.1.1.1.1.1.1.1.1.1.1.1.1.1.1.1.1.1.1.0
+one_of P all guess.Moment = all.1.1.1.1.1.1.1.1.1.1.1.1.1.1.1.1.1.1.1.0
+one_of P all guess.LimitedByWindow = all.1.1.1.1.1.1.1.1.1.1.1.1.1.1.1.1.1.1.1.1.0
+one_of P all guess.LeaveProbe = all.1.1.1.1.1.1.1.1.1.1.1.1.1.1.1.1.1.1.1.1.1.0
+one_of P all guess.LeaveRecovery = all.1.1.1.1.1.1.1.1.1.1.1.1.1.1.1.1.1.1.1.1.1.1.0
+one_of P all guess.TimeBack = all.1.1.1.1.1.1.1.1.1.1.1.1.1.1.1.1.1.1.1.1.1.1.1.0
+
 -- no other guess has its text
 abbrev IsAlone : Guess → Type 0
-IsAlone h = (g : Guess) → bytes_eq (guess_text h) (guess_text g) ≡ is_guess h g
+IsAlone h = AllByRecursion (λ g. bytes_eq (guess_text h) (guess_text g) ≡ is_guess h g) all_guesses
 
-size_alone : IsAlone guess.Size
-size_alone guess.DatagramByWindow = refl
-size_alone guess.DatagramByPacket = refl
-size_alone guess.DatagramLeast = refl
-size_alone guess.NoMaxAckDelay = refl
-size_alone guess.NoWindow = refl
-size_alone guess.HiddenWindow = refl
-size_alone guess.InitialRtt = refl
-size_alone guess.ProbeByCount = refl
-size_alone guess.ProbeByPing = refl
-size_alone guess.ProbeByRoom = refl
-size_alone guess.ProbeByTrigger = refl
-size_alone guess.Size = refl
-size_alone guess.SizeByGrowth = refl
-size_alone guess.TimerSpace = refl
-size_alone guess.LossTimer = refl
-size_alone guess.Discard = refl
-size_alone guess.Confirmed = refl
-size_alone guess.Delay = refl
-size_alone guess.Arrival = refl
-size_alone guess.Moment = refl
-size_alone guess.LimitedByWindow = refl
-size_alone guess.LeaveProbe = refl
-size_alone guess.LeaveRecovery = refl
-size_alone guess.TimeBack = refl
+is_alone : (h : Guess) → IsAlone h
+unfolding all_guesses
+is_alone guess.DatagramByWindow = (refl, (refl, (refl, (refl, (refl, (refl, (refl, (refl, (refl, (refl, (refl, (refl, (refl, (refl, (refl, (refl, (refl, (refl, (refl, (refl, (refl, (refl, (refl, (refl, tt))))))))))))))))))))))))
+is_alone guess.DatagramByPacket = (refl, (refl, (refl, (refl, (refl, (refl, (refl, (refl, (refl, (refl, (refl, (refl, (refl, (refl, (refl, (refl, (refl, (refl, (refl, (refl, (refl, (refl, (refl, (refl, tt))))))))))))))))))))))))
+is_alone guess.DatagramLeast = (refl, (refl, (refl, (refl, (refl, (refl, (refl, (refl, (refl, (refl, (refl, (refl, (refl, (refl, (refl, (refl, (refl, (refl, (refl, (refl, (refl, (refl, (refl, (refl, tt))))))))))))))))))))))))
+is_alone guess.NoMaxAckDelay = (refl, (refl, (refl, (refl, (refl, (refl, (refl, (refl, (refl, (refl, (refl, (refl, (refl, (refl, (refl, (refl, (refl, (refl, (refl, (refl, (refl, (refl, (refl, (refl, tt))))))))))))))))))))))))
+is_alone guess.NoWindow = (refl, (refl, (refl, (refl, (refl, (refl, (refl, (refl, (refl, (refl, (refl, (refl, (refl, (refl, (refl, (refl, (refl, (refl, (refl, (refl, (refl, (refl, (refl, (refl, tt))))))))))))))))))))))))
+is_alone guess.HiddenWindow = (refl, (refl, (refl, (refl, (refl, (refl, (refl, (refl, (refl, (refl, (refl, (refl, (refl, (refl, (refl, (refl, (refl, (refl, (refl, (refl, (refl, (refl, (refl, (refl, tt))))))))))))))))))))))))
+is_alone guess.InitialRtt = (refl, (refl, (refl, (refl, (refl, (refl, (refl, (refl, (refl, (refl, (refl, (refl, (refl, (refl, (refl, (refl, (refl, (refl, (refl, (refl, (refl, (refl, (refl, (refl, tt))))))))))))))))))))))))
+is_alone guess.ProbeByCount = (refl, (refl, (refl, (refl, (refl, (refl, (refl, (refl, (refl, (refl, (refl, (refl, (refl, (refl, (refl, (refl, (refl, (refl, (refl, (refl, (refl, (refl, (refl, (refl, tt))))))))))))))))))))))))
+is_alone guess.ProbeByPing = (refl, (refl, (refl, (refl, (refl, (refl, (refl, (refl, (refl, (refl, (refl, (refl, (refl, (refl, (refl, (refl, (refl, (refl, (refl, (refl, (refl, (refl, (refl, (refl, tt))))))))))))))))))))))))
+is_alone guess.ProbeByRoom = (refl, (refl, (refl, (refl, (refl, (refl, (refl, (refl, (refl, (refl, (refl, (refl, (refl, (refl, (refl, (refl, (refl, (refl, (refl, (refl, (refl, (refl, (refl, (refl, tt))))))))))))))))))))))))
+is_alone guess.ProbeByTrigger = (refl, (refl, (refl, (refl, (refl, (refl, (refl, (refl, (refl, (refl, (refl, (refl, (refl, (refl, (refl, (refl, (refl, (refl, (refl, (refl, (refl, (refl, (refl, (refl, tt))))))))))))))))))))))))
+is_alone guess.Size = (refl, (refl, (refl, (refl, (refl, (refl, (refl, (refl, (refl, (refl, (refl, (refl, (refl, (refl, (refl, (refl, (refl, (refl, (refl, (refl, (refl, (refl, (refl, (refl, tt))))))))))))))))))))))))
+is_alone guess.SizeByGrowth = (refl, (refl, (refl, (refl, (refl, (refl, (refl, (refl, (refl, (refl, (refl, (refl, (refl, (refl, (refl, (refl, (refl, (refl, (refl, (refl, (refl, (refl, (refl, (refl, tt))))))))))))))))))))))))
+is_alone guess.TimerSpace = (refl, (refl, (refl, (refl, (refl, (refl, (refl, (refl, (refl, (refl, (refl, (refl, (refl, (refl, (refl, (refl, (refl, (refl, (refl, (refl, (refl, (refl, (refl, (refl, tt))))))))))))))))))))))))
+is_alone guess.LossTimer = (refl, (refl, (refl, (refl, (refl, (refl, (refl, (refl, (refl, (refl, (refl, (refl, (refl, (refl, (refl, (refl, (refl, (refl, (refl, (refl, (refl, (refl, (refl, (refl, tt))))))))))))))))))))))))
+is_alone guess.Discard = (refl, (refl, (refl, (refl, (refl, (refl, (refl, (refl, (refl, (refl, (refl, (refl, (refl, (refl, (refl, (refl, (refl, (refl, (refl, (refl, (refl, (refl, (refl, (refl, tt))))))))))))))))))))))))
+is_alone guess.Confirmed = (refl, (refl, (refl, (refl, (refl, (refl, (refl, (refl, (refl, (refl, (refl, (refl, (refl, (refl, (refl, (refl, (refl, (refl, (refl, (refl, (refl, (refl, (refl, (refl, tt))))))))))))))))))))))))
+is_alone guess.Delay = (refl, (refl, (refl, (refl, (refl, (refl, (refl, (refl, (refl, (refl, (refl, (refl, (refl, (refl, (refl, (refl, (refl, (refl, (refl, (refl, (refl, (refl, (refl, (refl, tt))))))))))))))))))))))))
+is_alone guess.Arrival = (refl, (refl, (refl, (refl, (refl, (refl, (refl, (refl, (refl, (refl, (refl, (refl, (refl, (refl, (refl, (refl, (refl, (refl, (refl, (refl, (refl, (refl, (refl, (refl, tt))))))))))))))))))))))))
+is_alone guess.Moment = (refl, (refl, (refl, (refl, (refl, (refl, (refl, (refl, (refl, (refl, (refl, (refl, (refl, (refl, (refl, (refl, (refl, (refl, (refl, (refl, (refl, (refl, (refl, (refl, tt))))))))))))))))))))))))
+is_alone guess.LimitedByWindow = (refl, (refl, (refl, (refl, (refl, (refl, (refl, (refl, (refl, (refl, (refl, (refl, (refl, (refl, (refl, (refl, (refl, (refl, (refl, (refl, (refl, (refl, (refl, (refl, tt))))))))))))))))))))))))
+is_alone guess.LeaveProbe = (refl, (refl, (refl, (refl, (refl, (refl, (refl, (refl, (refl, (refl, (refl, (refl, (refl, (refl, (refl, (refl, (refl, (refl, (refl, (refl, (refl, (refl, (refl, (refl, tt))))))))))))))))))))))))
+is_alone guess.LeaveRecovery = (refl, (refl, (refl, (refl, (refl, (refl, (refl, (refl, (refl, (refl, (refl, (refl, (refl, (refl, (refl, (refl, (refl, (refl, (refl, (refl, (refl, (refl, (refl, (refl, tt))))))))))))))))))))))))
+is_alone guess.TimeBack = (refl, (refl, (refl, (refl, (refl, (refl, (refl, (refl, (refl, (refl, (refl, (refl, (refl, (refl, (refl, (refl, (refl, (refl, (refl, (refl, (refl, (refl, (refl, (refl, tt))))))))))))))))))))))))
 
-probe_alone : IsAlone guess.LeaveProbe
-probe_alone guess.DatagramByWindow = refl
-probe_alone guess.DatagramByPacket = refl
-probe_alone guess.DatagramLeast = refl
-probe_alone guess.NoMaxAckDelay = refl
-probe_alone guess.NoWindow = refl
-probe_alone guess.HiddenWindow = refl
-probe_alone guess.InitialRtt = refl
-probe_alone guess.ProbeByCount = refl
-probe_alone guess.ProbeByPing = refl
-probe_alone guess.ProbeByRoom = refl
-probe_alone guess.ProbeByTrigger = refl
-probe_alone guess.Size = refl
-probe_alone guess.SizeByGrowth = refl
-probe_alone guess.TimerSpace = refl
-probe_alone guess.LossTimer = refl
-probe_alone guess.Discard = refl
-probe_alone guess.Confirmed = refl
-probe_alone guess.Delay = refl
-probe_alone guess.Arrival = refl
-probe_alone guess.Moment = refl
-probe_alone guess.LimitedByWindow = refl
-probe_alone guess.LeaveProbe = refl
-probe_alone guess.LeaveRecovery = refl
-probe_alone guess.TimeBack = refl
+alone : (h g : Guess) → bytes_eq (guess_text h) (guess_text g) ≡ is_guess h g
+alone h = one_of (λ g. bytes_eq (guess_text h) (guess_text g) ≡ is_guess h g) (is_alone h)
 
-recovery_alone : IsAlone guess.LeaveRecovery
-recovery_alone guess.DatagramByWindow = refl
-recovery_alone guess.DatagramByPacket = refl
-recovery_alone guess.DatagramLeast = refl
-recovery_alone guess.NoMaxAckDelay = refl
-recovery_alone guess.NoWindow = refl
-recovery_alone guess.HiddenWindow = refl
-recovery_alone guess.InitialRtt = refl
-recovery_alone guess.ProbeByCount = refl
-recovery_alone guess.ProbeByPing = refl
-recovery_alone guess.ProbeByRoom = refl
-recovery_alone guess.ProbeByTrigger = refl
-recovery_alone guess.Size = refl
-recovery_alone guess.SizeByGrowth = refl
-recovery_alone guess.TimerSpace = refl
-recovery_alone guess.LossTimer = refl
-recovery_alone guess.Discard = refl
-recovery_alone guess.Confirmed = refl
-recovery_alone guess.Delay = refl
-recovery_alone guess.Arrival = refl
-recovery_alone guess.Moment = refl
-recovery_alone guess.LimitedByWindow = refl
-recovery_alone guess.LeaveProbe = refl
-recovery_alone guess.LeaveRecovery = refl
-recovery_alone guess.TimeBack = refl
+texts_have : (h : Guess) → (gs : List Guess) → has_text (guess_text h) (texts_of gs) ≡ has_guess h gs
+texts_have h [] = refl
+texts_have h (g ∷ gs) = ap₂ (λ a b. a || b) (alone h g) (texts_have h gs)
 
-limited_alone : IsAlone guess.LimitedByWindow
-limited_alone guess.DatagramByWindow = refl
-limited_alone guess.DatagramByPacket = refl
-limited_alone guess.DatagramLeast = refl
-limited_alone guess.NoMaxAckDelay = refl
-limited_alone guess.NoWindow = refl
-limited_alone guess.HiddenWindow = refl
-limited_alone guess.InitialRtt = refl
-limited_alone guess.ProbeByCount = refl
-limited_alone guess.ProbeByPing = refl
-limited_alone guess.ProbeByRoom = refl
-limited_alone guess.ProbeByTrigger = refl
-limited_alone guess.Size = refl
-limited_alone guess.SizeByGrowth = refl
-limited_alone guess.TimerSpace = refl
-limited_alone guess.LossTimer = refl
-limited_alone guess.Discard = refl
-limited_alone guess.Confirmed = refl
-limited_alone guess.Delay = refl
-limited_alone guess.Arrival = refl
-limited_alone guess.Moment = refl
-limited_alone guess.LimitedByWindow = refl
-limited_alone guess.LeaveProbe = refl
-limited_alone guess.LeaveRecovery = refl
-limited_alone guess.TimeBack = refl
-
-texts_have : (h : Guess) → IsAlone h → (gs : List Guess) → has_text (guess_text h) (texts_of gs) ≡ has_guess h gs
-texts_have h alone [] = refl
-texts_have h alone (g ∷ gs) = ap₂ (λ a b. a || b) (alone g) (texts_have h alone gs)
-
-listed : (h : Guess) → IsAlone h → (has_places : Bool) (first last : Place) (gs : List Guess)
+listed : (h : Guess) → (has_places : Bool) (first last : Place) (gs : List Guess)
     → lists (guess_text h) (get_member (codes "x_guess") (put_all no_members (own_members has_places first last gs))) ≡ has_guess h gs
-listed h alone false first last [] = refl
-listed h alone false first last (g ∷ gs) = texts_have h alone (g ∷ gs)
-listed h alone true first last [] = refl
-listed h alone true first last (g ∷ gs) = texts_have h alone (g ∷ gs)
+listed h false first last [] = refl
+listed h false first last (g ∷ gs) = texts_have h (g ∷ gs)
+listed h true first last [] = refl
+listed h true first last (g ∷ gs) = texts_have h (g ∷ gs)
 
-placed_said : (h : Guess) → IsAlone h → (has_places : Bool) (first last : Place) (gs : List Guess) → AreOwn (own_members has_places first last gs)
+placed_said : (h : Guess) → (has_places : Bool) (first last : Place) (gs : List Guess) → AreOwn (own_members has_places first last gs)
     → says_guess h (own_text (own_members has_places first last gs)) ≡ has_guess h gs
-placed_said h alone has_places first last gs are = own_says h (own_members has_places first last gs) are ∙ listed h alone has_places first last gs
+placed_said h has_places first last gs are = own_says h (own_members has_places first last gs) are ∙ listed h has_places first last gs
 
-guess_said : (h : Guess) → IsAlone h → (gs : List Guess) → AreOwn (guessed gs no_members) → says_guess h (own_text (guessed gs no_members)) ≡ has_guess h gs
-guess_said h alone [] are = none_said h
-guess_said h alone (g ∷ gs) are = own_says h (guessed (g ∷ gs) no_members) are ∙ texts_have h alone (g ∷ gs)
+guess_said : (h : Guess) → (gs : List Guess) → AreOwn (guessed gs no_members) → says_guess h (own_text (guessed gs no_members)) ≡ has_guess h gs
+guess_said h [] are = none_said h
+guess_said h (g ∷ gs) are = own_says h (guessed (g ∷ gs) no_members) are ∙ texts_have h (g ∷ gs)
 
 -- ---- the marks of a line
 
-alike : (p q : Guess → Bool) → p guess.Size ≡ q guess.Size → p guess.LeaveProbe ≡ q guess.LeaveProbe → p guess.LeaveRecovery ≡ q guess.LeaveRecovery
-    → p guess.LimitedByWindow ≡ q guess.LimitedByWindow → marks_by p ≡ marks_by q
-alike p q size probe recovery limited = rw (size, probe, recovery, limited) refl
+alike : (p q : Guess → Bool) → ((g : Guess) → p g ≡ q g) → marks_by p ≡ marks_by q
+alike p q same =
+    rw (
+      same guess.Size,
+      same guess.LeaveProbe,
+      same guess.LeaveRecovery,
+      same guess.LimitedByWindow,
+      same guess.ProbeByCount,
+      same guess.ProbeByPing,
+      same guess.ProbeByRoom,
+      same guess.ProbeByTrigger,
+      same guess.LossTimer,
+    ) refl
 
 -- no text has marks
 pub no_marks : marks_in [] ≡ marks_of []
-no_marks = alike (λ g. says_guess g []) (λ g. has_guess g []) (none_said guess.Size) (none_said guess.LeaveProbe) (none_said guess.LeaveRecovery)
-    (none_said guess.LimitedByWindow)
+no_marks = alike (λ g. says_guess g []) (λ g. has_guess g []) none_said
 
 pub noted_marks : (e : Event) (own : Members) → IsProperLine (line.Event e) → AreOwn own → marks_in (noted (line.Event e) own) ≡ marks_in (own_text own)
-noted_marks e own proper are =
-    alike (λ g. says_guess g (noted (line.Event e) own)) (λ g. says_guess g (own_text own))
-    (noted_says guess.Size e own proper are) (noted_says guess.LeaveProbe e own proper are) (noted_says guess.LeaveRecovery e own proper are)
-    (noted_says guess.LimitedByWindow e own proper are)
+noted_marks e own proper are = alike (λ g. says_guess g (noted (line.Event e) own)) (λ g. says_guess g (own_text own)) (λ g. noted_says g e own proper are)
 
 -- the own keys of a line say what was guessed
 pub says_guessed : (has_places : Bool) (first last : Place) (gs : List Guess) → AreOwn (own_members has_places first last gs)
     → marks_in (own_text (own_members has_places first last gs)) ≡ marks_of gs
 says_guessed has_places first last gs are =
-    alike (λ g. says_guess g (own_text (own_members has_places first last gs))) (λ g. has_guess g gs)
-    (placed_said guess.Size size_alone has_places first last gs are)
-    (placed_said guess.LeaveProbe probe_alone has_places first last gs are)
-    (placed_said guess.LeaveRecovery recovery_alone has_places first last gs are)
-    (placed_said guess.LimitedByWindow limited_alone has_places first last gs are)
+    alike (λ g. says_guess g (own_text (own_members has_places first last gs))) (λ g. has_guess g gs) (λ g. placed_said g has_places first last gs are)
 
 pub guesses_said : (gs : List Guess) → AreOwn (guessed gs no_members) → marks_in (own_text (guessed gs no_members)) ≡ marks_of gs
-guesses_said gs are =
-    alike (λ g. says_guess g (own_text (guessed gs no_members))) (λ g. has_guess g gs)
-    (guess_said guess.Size size_alone gs are) (guess_said guess.LeaveProbe probe_alone gs are) (guess_said guess.LeaveRecovery recovery_alone gs are)
-    (guess_said guess.LimitedByWindow limited_alone gs are)
+guesses_said gs are = alike (λ g. says_guess g (own_text (guessed gs no_members))) (λ g. has_guess g gs) (λ g. guess_said g gs are)

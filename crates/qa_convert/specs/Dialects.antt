@@ -1,10 +1,9 @@
--- What a log shows beside its dialect: its order, what a value means that is left out, and how fine
--- its times are. All else is as the dialect says.
+-- A log may show another order than that of its dialect, what a value means that is left out, and
+-- how fine its times are. It does not change how delays, sizes, reports and limits are read.
 use Rattle.std.specs.Prelude.{◌≡◌}
 use Rattle.qa_convert.specs.declared.dialects.Dialect.{Dialect}
 
--- by the dialect that was found, delays, sizes, reports and limits are read as by the one that was
--- asked for
+-- these are read as by the dialect that was asked for
 pub record IsLike (asked found : Dialect) : Type 0 where
   pub subtracts : found.subtracts_delay ≡ asked.subtracts_delay
   pub is_encoded : found.delay_is_encoded ≡ asked.delay_is_encoded

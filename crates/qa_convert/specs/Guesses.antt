@@ -97,6 +97,15 @@ is_of_line guess.LeaveProbe = false
 is_of_line guess.LeaveRecovery = false
 is_of_line guess.TimeBack = false
 
+-- a timer expired
+abbrev pub is_of_timer : Guess → Bool
+is_of_timer guess.ProbeByCount = true
+is_of_timer guess.ProbeByPing = true
+is_of_timer guess.ProbeByRoom = true
+is_of_timer guess.ProbeByTrigger = true
+is_of_timer guess.LossTimer = true
+is_of_timer _ = false
+
 -- the list of what is said of each
 abbrev pub texts_of : List Guess → Items
 texts_of [] = no_items

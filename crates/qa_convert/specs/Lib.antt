@@ -22,3 +22,4 @@ pub mod Said
 pub mod Sending
 pub mod Taking
 pub mod Telling
+pub mod Timers

@@ -34,13 +34,15 @@ is_said g _ = false
 unfoldable pub says_guess : Guess → List ℕ → Bool
 says_guess g text = is_said g (json_of text)
 
--- which guesses the line of a packet says: that of its size; those of the leave by which it was
--- sent, a probe's or that of the entry into recovery; that the window was not used
+-- which guesses a line says: that of the size of a packet; those of the leave by which it was
+-- sent, a probe's or that of the entry into recovery; that the window was not used; and that of a
+-- timer that expired
 pub record Marks : Type 0 where
   pub size : Bool
   pub probe : Bool
   pub recovery : Bool
   pub limited : Bool
+  pub timer : Bool
 
 abbrev pub marks_by : (Guess → Bool) → Marks
 marks_by is_said = record {
@@ -48,6 +50,8 @@ marks_by is_said = record {
   probe = is_said guess.LeaveProbe;
   recovery = is_said guess.LeaveRecovery;
   limited = is_said guess.LimitedByWindow;
+  timer = is_said guess.ProbeByCount || is_said guess.ProbeByPing || is_said guess.ProbeByRoom
+      || is_said guess.ProbeByTrigger || is_said guess.LossTimer;
 }
 
 -- those that the text of a line says

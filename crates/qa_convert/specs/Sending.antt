@@ -5,7 +5,8 @@ use Rattle.qa_convert.specs.Telling.{SentLine, Told, may_settle, with_sent}
 use Rattle.qa_convert.specs.declared.packet.LoggedPacket.{LoggedPacket}
 use Rattle.qa_convert.specs.declared.sending.Outgoing.{Outgoing}
 
--- the line of a packet, which says or does not say that the size is a guess, and says so of a leave
+-- the line of a packet, which says or does not say that the size is a guess; that a leave is one,
+-- it says
 abbrev pub line_of : Outgoing → Bool → SentLine
 line_of o is_size_guessed = record {
   space = o.packet.space;

@@ -52,8 +52,8 @@ progress_of c = record {
   rules = rules_of c.conversion;
 }
 
--- no record is read, the connection of this number is converted, and the log is of this dialect,
--- except for its order and how fine its times are
+-- no record is read, the connection of this number is converted, and delays, sizes, reports and
+-- limits are read as this dialect says
 pub record Begins (h : Head) (chosen : ℕ) (d : Dialect) (p : Progress) : Type 0 where
   pub head : p.head ≡ h
   pub clock : p.clock ≡ clock_before h

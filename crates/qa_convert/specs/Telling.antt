@@ -1,4 +1,4 @@
--- What lines tell of packets: a reader of traces reads the text that was written.
+-- What lines tell of packets and timers: a reader of traces reads the text that was written.
 use Rattle.std.specs.Prelude.{◌≡◌, ◌||◌, ◌&&◌, ℕ, Bool, false, List, [], ◌∷◌, ◌++◌, flat_map, map}
 use Rattle.std.specs.Prelude.{Result, Ok, Option, Some, None, if◌then◌else◌, true}
 use Rattle.std.specs.List.{fold}
@@ -9,6 +9,7 @@ use Rattle.qa_base.specs.declared.event.SentPacket.{SentPacket}
 use Rattle.qa_base.specs.declared.space.Permission.{Permission}
 use Rattle.qa_base.specs.declared.space.Permission.TheVariants.{Window, Probe, Recovery}
 use Rattle.qa_base.specs.declared.space.Space.{Space}
+use Rattle.qa_base.specs.declared.space.TimerKind.{TimerKind}
 use Rattle.qa_format.specs.declared.fault.Fault.{Fault}
 use Rattle.qa_format.specs.declared.line.Line.{Line}
 use Rattle.qa_format.specs.declared.line.Line.TheVariants as line
@@ -48,14 +49,20 @@ pub record LostLine : Type 0 where
   pub space : Space
   pub ranges : List (ℕ × ℕ)
 
+-- of a timer that expired
+pub record TimerLine : Type 0 where
+  pub kind : TimerKind
+  pub space : Space
+
 -- of each kind, in the order of the lines
 pub record Told : Type 0 where
   pub sent : List SentLine
   pub acks : List AckLine
   pub lost : List LostLine
+  pub timers : List TimerLine
 
 abbrev pub nothing : Told
-nothing = record { sent = []; acks = []; lost = [] }
+nothing = record { sent = []; acks = []; lost = []; timers = [] }
 
 -- a leave by a probe or by the entry into recovery is said to be a guess
 abbrev pub says_leave : Permission → Marks → Bool
@@ -86,13 +93,21 @@ ack_line m a = record {
   says_limited = says_limited a.app_limited m;
 }
 
+-- a line of a timer tells nothing if it says that this is a guess
+abbrev pub timer_told : Marks → TimerKind → Space → List TimerLine
+timer_told m kind space = if m.timer then [] else record { kind = kind; space = space } ∷ []
+
+abbrev pub with_timer : Told → Marks → TimerKind → Space → Told
+with_timer t m kind space = record t { timers = t.timers ++ timer_told m kind space }
+
 -- what is told once an event is, too, whose line says which guesses it has: other events tell
--- nothing of packets
+-- nothing of packets and timers
 abbrev pub with_event : Told → Marks → Event → Told
 with_event t m (event.Sent p) = record t { sent = t.sent ++ sent_line m p ∷ [] }
 with_event t m (event.Ack a) = record t { acks = t.acks ++ ack_line m a ∷ [] }
 with_event t m (event.Lost time space ranges) =
     record t { lost = t.lost ++ record { space = space; ranges = ranges } ∷ [] }
+with_event t m (event.Timer time kind space) = with_timer t m kind space
 with_event t m _ = t
 
 -- what the text of a line says, and which guesses it says that it has

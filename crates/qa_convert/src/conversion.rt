@@ -3,6 +3,7 @@ ghost use Rattle.std.specs.Prelude.{◌≡◌, IfOk, OnOk, false, true};
 ghost use Rattle.qa_convert.specs.AckDelays.{Answers, decoding_of, is_by_state};
 ghost use Rattle.qa_convert.specs.Losing.{Declares};
 ghost use Rattle.qa_convert.specs.Rules.{rules_of};
+ghost use Rattle.qa_convert.specs.Timers.{Expires};
 ghost use Rattle.qa_convert.specs.Telling.{Writes, next_marks, says_limited, told_in};
 
 use crate::dialects::{Absent, Dialect, Limited};
@@ -161,6 +162,8 @@ impl Conversion {
             (told_in self.new.writing)) }
         ensures lost { OnOk result (Declares self.old.writing.bare group.about
             group.beside.items (told_in self.old.writing) (told_in self.new.writing)) }
+        ensures timers { OnOk result (Expires group.about (told_in self.old.writing)
+            (told_in self.new.writing)) }
         ensures delays { OnOk result (Answers (decoding_of self.old) group.about
             (told_in self.old.writing) (told_in self.new.writing)) }
         ensures rules { OnOk result (rules_of self.new ≡ rules_of self.old) }

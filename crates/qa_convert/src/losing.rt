@@ -1,11 +1,12 @@
 //! Losses that are declared, and the timers that find them.
-ghost use Rattle.std.specs.Prelude.{◌≡◌, ◌++◌, ℕ, IfNone, IfOk, OnOk, false};
+ghost use Rattle.std.specs.Prelude.{◌≡◌, ◌++◌, ◌∷◌, [], ℕ, IfNone, IfOk, IfSome, OnOk, false};
 ghost use Rattle.std.specs.List.{list_any};
 ghost use Rattle.qa_base.specs.values.Events.{is_space};
 ghost use Rattle.qa_convert.specs.Losing.{ArePacketNumbers, Names, in_flight, in_space, is_among};
 ghost use Rattle.qa_convert.specs.Losing.{is_in, lost_in, packets_of, with_fit};
 ghost use Rattle.qa_convert.specs.Rules.{rules_of};
 ghost use Rattle.qa_convert.specs.Telling.{next_marks, told_in};
+ghost use Rattle.qa_convert.specs.Timers.{AddsTimers, WritesTimer};
 ghost use Rattle.qa_convert.specs.declared.guess.Guess.TheVariants as a_guess;
 
 use crate::conversion::{Conversion, LATE_BY_PROGRAM, latest_of};
@@ -32,6 +33,8 @@ impl Conversion {
     ) -> Result<(), NoLine>
         ensures sent { OnOk result ((told_in self.new.writing).sent
             ≡ (told_in self.old.writing).sent) }
+        ensures timers { OnOk result ((told_in self.new.writing).timers
+            ≡ (told_in self.old.writing).timers) }
         ensures acks { OnOk result ((told_in self.new.writing).acks
             ≡ (told_in self.old.writing).acks) }
         ensures lost { OnOk result (Names (in_flight self.old.writing.bare
@@ -50,6 +53,8 @@ impl Conversion {
     pub(crate) fn detections(&mut self, events: &[LoggedEvent]) -> Result<(), NoLine>
         ensures sent { OnOk result ((told_in self.new.writing).sent
             ≡ (told_in self.old.writing).sent) }
+        ensures timers { OnOk result ((told_in self.new.writing).timers
+            ≡ (told_in self.old.writing).timers) }
         ensures acks { OnOk result ((told_in self.new.writing).acks
             ≡ (told_in self.old.writing).acks) }
         ensures lost { OnOk result (Names (in_flight self.old.writing.bare
@@ -83,6 +88,8 @@ impl Conversion {
     fn detected(&mut self, events: &[LoggedEvent]) -> Result<(), NoLine>
         ensures sent { OnOk result ((told_in self.new.writing).sent
             ≡ (told_in self.old.writing).sent) }
+        ensures timers { OnOk result ((told_in self.new.writing).timers
+            ≡ (told_in self.old.writing).timers) }
         ensures acks { OnOk result ((told_in self.new.writing).acks
             ≡ (told_in self.old.writing).acks) }
         ensures lost { OnOk result (Names (in_flight self.old.writing.bare
@@ -111,6 +118,8 @@ impl Conversion {
     ) -> Result<(), NoLine>
         ensures sent { OnOk result ((told_in self.new.writing).sent
             ≡ (told_in self.old.writing).sent) }
+        ensures timers { OnOk result ((told_in self.new.writing).timers
+            ≡ (told_in self.old.writing).timers) }
         ensures acks { OnOk result ((told_in self.new.writing).acks
             ≡ (told_in self.old.writing).acks) }
         ensures lost { OnOk result (Names (in_flight self.old.writing.bare
@@ -160,6 +169,8 @@ impl Conversion {
     ) -> Result<(), NoLine>
         ensures sent { OnOk result ((told_in self.new.writing).sent
             ≡ (told_in self.old.writing).sent) }
+        ensures timers { OnOk result (AddsTimers (expiry ∷ []) (told_in self.old.writing)
+            (told_in self.new.writing)) }
         ensures acks { OnOk result ((told_in self.new.writing).acks
             ≡ (told_in self.old.writing).acks) }
         ensures lost { OnOk result (Names (in_flight self.old.writing.bare
@@ -167,27 +178,46 @@ impl Conversion {
         ensures rules { OnOk result (rules_of self.new ≡ rules_of self.old) }
     {
         let losses = losses_in(self.writing.alloc, beside)?;
-        let is_alone = self.first_in_flight(&losses).is_none();
+        self.write_expired(at, expiry, &losses, beside)?;
+        self.after_timer(at, &losses, beside)
+    }
+
+    /// Writes the line of a timer, if it did something.
+    fn write_expired(
+        &mut self,
+        at: At,
+        expiry: Expiry,
+        losses: &[LostAt],
+        beside: &[LoggedEvent],
+    ) -> Result<(), NoLine>
+        ensures timers { OnOk result (AddsTimers (expiry ∷ []) (told_in self.old.writing)
+            (told_in self.new.writing)) }
+        ensures sent { OnOk result ((told_in self.new.writing).sent
+            ≡ (told_in self.old.writing).sent) }
+        ensures acks { OnOk result ((told_in self.new.writing).acks
+            ≡ (told_in self.old.writing).acks) }
+        ensures lost { OnOk result ((told_in self.new.writing).lost
+            ≡ (told_in self.old.writing).lost) }
+        ensures bare { OnOk result (self.new.writing.bare ≡ self.old.writing.bare) }
+        ensures rules { OnOk result (rules_of self.new ≡ rules_of self.old) }
+    {
+        let is_alone = self.first_in_flight(losses).is_none();
         let has_losses = beside.iter().any(|event| is_loss(event));
         let is_counted = beside.iter().any(|event| has_count(event));
-        let kind = match expiry.kind {
-            None if has_losses => Some(TimerKind::Loss),
-            None if is_counted => Some(TimerKind::Pto),
-            kind => kind,
-        };
         let is_idle = self.known.counts_at_timers && !is_counted;
-        match kind {
-            None => self.writing.omit(Omission::OtherTimer)?,
-            Some(TimerKind::Loss) if is_alone && has_losses => {
-                self.writing.omit(Omission::BareTimer)?
-            }
-            Some(TimerKind::Loss) if is_alone => self.writing.omit(Omission::IdleTimer)?,
-            Some(TimerKind::Pto) if is_alone && is_idle => {
-                self.writing.omit(Omission::IdleTimer)?
-            }
-            Some(kind) => self.expired(at, expiry, kind, &losses)?,
+        let Some(kind) = kind_of(expiry, has_losses, is_counted) else {
+            return Ok(self.writing.omit(Omission::OtherTimer)?);
+        };
+        let omission = match kind {
+            TimerKind::Loss if is_alone && has_losses => Some(Omission::BareTimer),
+            TimerKind::Loss if is_alone => Some(Omission::IdleTimer),
+            TimerKind::Pto if is_alone && is_idle => Some(Omission::IdleTimer),
+            _ => None,
+        };
+        match omission {
+            Some(omission) => Ok(self.writing.omit(omission)?),
+            None => self.expired(at, expiry, kind, losses),
         }
-        self.after_timer(at, &losses, beside)
     }
 
     /// Writes the line of a timer that did something.
@@ -198,7 +228,8 @@ impl Conversion {
         kind: TimerKind,
         losses: &[LostAt],
     ) -> Result<(), NoLine>
-        ensures told { OnOk result (told_in self.new.writing ≡ told_in self.old.writing) }
+        ensures writes { OnOk result ((writes : WritesTimer false kind (told_in self.old.writing)
+            (told_in self.new.writing)) × IfSome expiry.space (λ space. writes.space ≡ space)) }
         ensures bare { OnOk result (self.new.writing.bare ≡ self.old.writing.bare) }
         ensures rules { OnOk result (rules_of self.new ≡ rules_of self.old) }
     {
@@ -246,6 +277,7 @@ impl Conversion {
         kind: TimerKind,
         found: Option<Space>,
     ) -> Result<Space, AllocError>
+        ensures space { IfOk result (λ found. IfSome expiry.space (λ space. found ≡ space)) }
         ensures told { OnOk result (told_in self.new.writing ≡ told_in self.old.writing) }
         ensures bare { OnOk result (self.new.writing.bare ≡ self.old.writing.bare) }
         ensures rules { OnOk result (rules_of self.new ≡ rules_of self.old) }
@@ -269,6 +301,8 @@ impl Conversion {
     ) -> Result<(), NoLine>
         ensures sent { OnOk result ((told_in self.new.writing).sent
             ≡ (told_in self.old.writing).sent) }
+        ensures timers { OnOk result ((told_in self.new.writing).timers
+            ≡ (told_in self.old.writing).timers) }
         ensures acks { OnOk result ((told_in self.new.writing).acks
             ≡ (told_in self.old.writing).acks) }
         ensures lost { OnOk result (Names (in_flight self.old.writing.bare
@@ -287,6 +321,8 @@ impl Conversion {
     pub(crate) fn write_lost(&mut self, time: u64, losses: &[LostAt]) -> Result<(), NoLine>
         ensures sent { OnOk result ((told_in self.new.writing).sent
             ≡ (told_in self.old.writing).sent) }
+        ensures timers { OnOk result ((told_in self.new.writing).timers
+            ≡ (told_in self.old.writing).timers) }
         ensures acks { OnOk result ((told_in self.new.writing).acks
             ≡ (told_in self.old.writing).acks) }
         ensures lost { OnOk result (Names (in_flight self.old.writing.bare
@@ -345,6 +381,8 @@ impl Conversion {
     ) -> Result<(), NoLine>
         ensures sent { OnOk result ((told_in self.new.writing).sent
             ≡ (told_in self.old.writing).sent) }
+        ensures timers { OnOk result ((told_in self.new.writing).timers
+            ≡ (told_in self.old.writing).timers) }
         ensures acks { OnOk result ((told_in self.new.writing).acks
             ≡ (told_in self.old.writing).acks) }
         ensures lost { OnOk result (Names (in_space space (packets_of losses.now))
@@ -388,6 +426,17 @@ impl Conversion {
         }
         self.writing.output.write(event, first, last)?;
         Ok(())
+    }
+}
+
+/// Which timer it was: by the log, else by what is beside it.
+fn kind_of(expiry: Expiry, has_losses: bool, is_counted: bool) -> Option<TimerKind>
+    ensures { IfSome result (λ found. IfSome expiry.kind (λ kind. found ≡ kind)) }
+{
+    match expiry.kind {
+        None if has_losses => Some(TimerKind::Loss),
+        None if is_counted => Some(TimerKind::Pto),
+        kind => kind,
     }
 }
 

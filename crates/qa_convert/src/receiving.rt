@@ -1,10 +1,11 @@
 //! Packets that come, and what their ACK frames say.
-ghost use Rattle.std.specs.Prelude.{◌≡◌, ◌<◌, ◌≤◌, ◌++◌, ◌∷◌, [], IfOk, OnOk, length};
+ghost use Rattle.std.specs.Prelude.{◌≡◌, ◌<◌, ◌≤◌, ◌++◌, ◌∷◌, [], IfOk, OnOk, length, true};
 ghost use Rattle.qa_convert.specs.AckDelays.{AddsAcks, AddsAllOrNone, IsDelayOf, TellsAcks};
 ghost use Rattle.qa_convert.specs.AckDelays.{decoding_of, lines_of};
 ghost use Rattle.qa_convert.specs.Losing.{Leaves, NamesOnly, lost_in, packets_of};
 ghost use Rattle.qa_convert.specs.Rules.{rules_of};
-ghost use Rattle.qa_convert.specs.Telling.{next_marks, told_in};
+ghost use Rattle.qa_convert.specs.Telling.{next_marks, told_in, will_say};
+ghost use Rattle.qa_convert.specs.declared.guess.Guess.{Guess as AGuess};
 
 use crate::conversion::{Conversion, LATE_BY_PROGRAM};
 use crate::decoding::Decoding;
@@ -44,6 +45,8 @@ impl Conversion {
             (told_in self.old.writing) (told_in self.new.writing)) }
         ensures sent { OnOk result ((told_in self.new.writing).sent
             ≡ (told_in self.old.writing).sent) }
+        ensures timers { OnOk result ((told_in self.new.writing).timers
+            ≡ (told_in self.old.writing).timers) }
         ensures lost { OnOk result (NamesOnly (packets_of before.items ++ lost_in beside.now)
             (told_in self.old.writing) (told_in self.new.writing)) }
         ensures rules { OnOk result (rules_of self.new ≡ rules_of self.old) }
@@ -104,6 +107,8 @@ impl Conversion {
             ≡ (told_in self.old.writing).acks) }
         ensures sent { OnOk result ((told_in self.new.writing).sent
             ≡ (told_in self.old.writing).sent) }
+        ensures timers { OnOk result ((told_in self.new.writing).timers
+            ≡ (told_in self.old.writing).timers) }
         ensures lost { OnOk result (NamesOnly (lost_in later.now) (told_in self.old.writing)
             (told_in self.new.writing)) }
         ensures rules { OnOk result (rules_of self.new ≡ rules_of self.old) }
@@ -132,6 +137,8 @@ impl Conversion {
     ) -> Result<Vec<LostAt>, NoLine>
         ensures sent { OnOk result ((told_in self.new.writing).sent
             ≡ (told_in self.old.writing).sent) }
+        ensures timers { OnOk result ((told_in self.new.writing).timers
+            ≡ (told_in self.old.writing).timers) }
         ensures acks { OnOk result ((told_in self.new.writing).acks
             ≡ (told_in self.old.writing).acks) }
         ensures lost { IfOk result (λ left. Leaves (packets_of before.items)
@@ -160,6 +167,8 @@ impl Conversion {
             (told_in self.old.writing) (told_in self.new.writing)) }
         ensures sent { OnOk result ((told_in self.new.writing).sent
             ≡ (told_in self.old.writing).sent) }
+        ensures timers { OnOk result ((told_in self.new.writing).timers
+            ≡ (told_in self.old.writing).timers) }
         ensures lost { OnOk result (NamesOnly (packets_of lost.items) (told_in self.old.writing)
             (told_in self.new.writing)) }
         ensures rules { OnOk result (rules_of self.new ≡ rules_of self.old) }
@@ -188,6 +197,8 @@ impl Conversion {
             packet.now.packet.acks.items (told_in self.old.writing) (told_in self.new.writing)) }
         ensures sent { OnOk result ((told_in self.new.writing).sent
             ≡ (told_in self.old.writing).sent) }
+        ensures timers { OnOk result ((told_in self.new.writing).timers
+            ≡ (told_in self.old.writing).timers) }
         ensures lost { OnOk result (NamesOnly (packets_of lost.now) (told_in self.old.writing)
             (told_in self.new.writing)) }
         ensures rules { OnOk result (rules_of self.new ≡ rules_of self.old) }
@@ -335,6 +346,8 @@ impl Conversion {
             (ack.now ∷ []) (told_in self.old.writing) (told_in self.new.writing)) }
         ensures sent { OnOk result ((told_in self.new.writing).sent
             ≡ (told_in self.old.writing).sent) }
+        ensures timers { OnOk result ((told_in self.new.writing).timers
+            ≡ (told_in self.old.writing).timers) }
         ensures lost { OnOk result (NamesOnly (packets_of lost.now) (told_in self.old.writing)
             (told_in self.new.writing)) }
         ensures rules { OnOk result (rules_of self.new ≡ rules_of self.old) }
@@ -375,6 +388,8 @@ impl Conversion {
             ≡ (told_in self.old.writing).acks ++ lines_of (next_marks self.old.writing) answer) }
         ensures sent { OnOk result ((told_in self.new.writing).sent
             ≡ (told_in self.old.writing).sent) }
+        ensures timers { OnOk result ((told_in self.new.writing).timers
+            ≡ (told_in self.old.writing).timers) }
         ensures lost { OnOk result ((told_in self.new.writing).lost
             ≡ (told_in self.old.writing).lost) }
         ensures rules { OnOk result (rules_of self.new ≡ rules_of self.old) }
@@ -451,6 +466,8 @@ impl Conversion {
         top: u64,
         lost: &[LostAt],
     ) -> Result<u64, AllocError>
+        ensures says_more { OnOk result ((g : AGuess) → will_say self.old.writing g ≡ true
+            → will_say self.new.writing g ≡ true) }
         ensures told { OnOk result (told_in self.new.writing ≡ told_in self.old.writing) }
         ensures bare { OnOk result (self.new.writing.bare ≡ self.old.writing.bare) }
         ensures rules { OnOk result (rules_of self.new ≡ rules_of self.old) }

@@ -1,10 +1,12 @@
 //! Packets that are sent, and the probe timeouts that sent them.
-ghost use Rattle.std.specs.Prelude.{◌≡◌, ◌∷◌, [], ◌||◌, Bool, IfOk, List, OnOk, false, nat_eq};
-ghost use Rattle.std.specs.Prelude.{true};
+ghost use Rattle.std.specs.Prelude.{◌≡◌, ◌∷◌, [], ◌||◌, Bool, IfOk, IfSome, List, OnOk, false};
+ghost use Rattle.std.specs.Prelude.{nat_eq, true};
+ghost use Rattle.qa_convert.specs.Guesses.{is_of_timer};
 ghost use Rattle.qa_convert.specs.Rules.{rules_of};
 ghost use Rattle.qa_convert.specs.Sending.{AreOf, IsOf, Wrote};
 ghost use Rattle.qa_convert.specs.Telling.{Sends, next_marks, says_leave, sized, told_in};
 ghost use Rattle.qa_convert.specs.Telling.{will_say};
+ghost use Rattle.qa_convert.specs.Timers.{WritesTimer};
 ghost use Rattle.qa_convert.specs.declared.guess.Guess.{Guess as AGuess};
 ghost use Rattle.qa_convert.specs.declared.packet.LoggedPacket.{LoggedPacket as APacket};
 ghost use Rattle.qa_qlog.specs.Frames.{is_in_flight};
@@ -414,7 +416,9 @@ impl Conversion {
     }
 
     /// A probe timeout by what a packet says.
-    fn probe_by_trigger(&self, first: &Outgoing) -> Option<Guess> {
+    fn probe_by_trigger(&self, first: &Outgoing) -> Option<Guess>
+        ensures { IfSome result (λ guess. is_of_timer guess ≡ true) }
+    {
         let is_next = self.probe.time.saturating_add(LATE_BY_PROGRAM) < first.at.time;
         if first.packet.shows_probe() && (self.probe.packets == 0 || is_next) {
             Some(Guess::ProbeByTrigger)
@@ -426,7 +430,9 @@ impl Conversion {
     /// A probe timeout by the room that a packet keeps for a PING, or by one.
     ///
     /// It has one for other causes too, but not as long as nothing was acknowledged.
-    fn probe_by_room(&self, first: &Outgoing) -> Option<Guess> {
+    fn probe_by_room(&self, first: &Outgoing) -> Option<Guess>
+        ensures { IfSome result (λ guess. is_of_timer guess ≡ true) }
+    {
         let last = *self.last_eliciting.of(first.packet.space);
         let is_later = match last {
             Some(time) => time < first.at.time,
@@ -452,7 +458,9 @@ impl Conversion {
     }
 
     /// A probe timeout by a PING.
-    fn probe_by_ping(&self, packets: &[Outgoing]) -> Option<Guess> {
+    fn probe_by_ping(&self, packets: &[Outgoing]) -> Option<Guess>
+        ensures { IfSome result (λ guess. is_of_timer guess ≡ true) }
+    {
         for packet in packets {
             if self.is_ping_of_probe(&packet.packet) {
                 return Some(Guess::ProbeByPing);
@@ -511,22 +519,32 @@ impl Conversion {
         space: Space,
         nanoseconds: u64,
     ) -> Result<(), NoLine>
-        ensures told { OnOk result (told_in self.new.writing ≡ told_in self.old.writing) }
+        ensures writes { OnOk result ((writes : WritesTimer (next_marks self.old.writing).timer kind
+            (told_in self.old.writing) (told_in self.new.writing)) × (writes.space ≡ space)) }
         ensures bare { OnOk result (self.new.writing.bare ≡ self.old.writing.bare) }
         ensures rules { OnOk result (rules_of self.new ≡ rules_of self.old) }
     {
         let time = self.writing.next_time(nanoseconds)?;
         let event = Event::Timer { time, kind, space };
         self.writing.output.write(event, at.place, at.place)?;
-        if kind == TimerKind::Pto {
-            self.probe.bytes = self.terms.datagram.saturating_mul(DATAGRAMS_OF_PROBE);
-            self.probe.packets = DATAGRAMS_OF_PROBE;
-            self.probe.time = at.time;
-            if !self.known.logs_timers {
-                self.pto_count = self.pto_count.saturating_add(1);
-            }
-        }
+        self.allow_probe(at, kind);
         Ok(())
+    }
+
+    /// What a timer allows to be sent, if it was a probe timeout (RFC 9002, section 6.2.4).
+    fn allow_probe(&mut self, at: At, kind: TimerKind)
+        ensures writing { self.new.writing ≡ self.old.writing }
+        ensures rules { rules_of self.new ≡ rules_of self.old }
+    {
+        if kind != TimerKind::Pto {
+            return;
+        }
+        self.probe.bytes = self.terms.datagram.saturating_mul(DATAGRAMS_OF_PROBE);
+        self.probe.packets = DATAGRAMS_OF_PROBE;
+        self.probe.time = at.time;
+        if !self.known.logs_timers {
+            self.pto_count = self.pto_count.saturating_add(1);
+        }
     }
 
     /// Bytes that left with no event: quic-go takes packets out of flight that it probes for.

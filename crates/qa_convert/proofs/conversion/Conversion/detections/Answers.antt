@@ -13,6 +13,7 @@ loop-place-preserved c =
           rw (w.self-is, w.begun-is) (record {
             begun = end;
             sent = w.in_ok-detected.ensures.sent ∙ was.sent;
+            timers = w.in_ok-detected.ensures.timers ∙ was.timers;
             acks = w.in_ok-detected.ensures.acks ∙ was.acks;
             rules = w.in_ok-detected.ensures.rules ∙ was.rules;
             bare = w.in_ok-detected.ensures.bare ∙ was.bare;

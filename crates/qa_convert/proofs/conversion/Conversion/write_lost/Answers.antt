@@ -14,6 +14,7 @@ use Rattle.qa_convert.proofs.conversion.Conversion.write_lost.Goals.{then-not-is
 pub loop-it-init : goal.loop-it-init
 loop-it-init c = record {
   sent = refl;
+  timers = refl;
   acks = refl;
   rules = refl;
   bare = refl;
@@ -35,6 +36,7 @@ loop-it-preserved c =
           rw (c.deref-it-items.ensures.value, ← w.deref.ensures.value) w.in_ok-write_lost_of.ensures.lost in
           rw (w.self-is, written) (record {
             sent = w.in_ok-write_lost_of.ensures.sent ∙ was.sent;
+            timers = w.in_ok-write_lost_of.ensures.timers ∙ was.timers;
             acks = w.in_ok-write_lost_of.ensures.acks ∙ was.acks;
             rules = w.in_ok-write_lost_of.ensures.rules ∙ was.rules;
             bare = w.in_ok-write_lost_of.ensures.bare ∙ was.bare;
@@ -46,6 +48,7 @@ loop-it-preserved c =
           let here : of_space space old ≡ true = sym c.of.ensures ∙ w.if-not-of.false in
           rw (w.self-is, w.written-is) (record {
             sent = was.sent;
+            timers = was.timers;
             acks = was.acks;
             rules = was.rules;
             bare = was.bare;

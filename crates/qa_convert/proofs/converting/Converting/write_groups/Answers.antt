@@ -17,7 +17,7 @@ loop-group-preserved c =
     let mid = told_in c.write.new.self.writing in
     let writes = subst (λ (r : Rules). Writes r.settles r.by_growth g.about (told_in old.writing) mid) now.rules wrote.sent in
     let answers = subst (λ (r : Rules). Answers r.decoding g.about (told_in old.writing) mid) now.rules wrote.delays in
-    let one = tells_one first old.writing.bare g (told_in old.writing) mid writes answers wrote.lost in
+    let one = tells_one first old.writing.bare g (told_in old.writing) mid writes answers wrote.lost wrote.timers in
     record {
       events = now.events;
       order = now.order;
