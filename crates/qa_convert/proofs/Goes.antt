@@ -1,14 +1,16 @@
 -- Events that go on one after another.
-use Rattle.std.proofs.Common.{◌≡◌, ◌∙◌, ◌+◌, ◌++◌, ℕ, List, [], ◌∷◌, Bool, append-nil, append_assoc, arith, sym, ap, flat_map}
+use Rattle.std.proofs.Common.{◌≡◌, ◌∙◌, ◌+◌, ◌++◌, ℕ, List, [], ◌∷◌, Bool, append-nil, append_assoc, arith, sym, ap, flat_map, subst}
 use Rattle.std.proofs.lemmas.Grind.{flat_map-append}
 use Rattle.qa_convert.proofs.GroupTold.{both_tell}
 use Rattle.qa_convert.proofs.Grouped.{gathers_then}
 use Rattle.qa_convert.proofs.Ordered.{count_append, told_append}
 use Rattle.qa_convert.proofs.Passed.{passes_none}
+use Rattle.qa_convert.proofs.Keyed.{rules_then}
+use Rattle.qa_convert.specs.GroupLines.{TellsOf}
 use Rattle.qa_convert.specs.Groups.{Gathers, Held}
 use Rattle.qa_convert.specs.Orders.{Follows, count_of, is_lost, is_received, is_sent, told}
 use Rattle.qa_convert.specs.Passing.{Passes, counted}
-use Rattle.qa_convert.specs.Rules.{Rules}
+use Rattle.qa_convert.specs.Rules.{Rules, rules_after}
 use Rattle.qa_convert.specs.Taking.{Goes, Progress}
 use Rattle.qa_convert.specs.Telling.{Told}
 use Rattle.qa_convert.specs.declared.event.LoggedEvent.{LoggedEvent}
@@ -55,9 +57,9 @@ gathers_behind front old new more out out' is = record {
   kept = is.kept;
 }
 
-pub passes_then : (rules : Rules) (w w' w'' : List LoggedEvent) (h h' h'' : Held) (r r' r'' : List Group) (t t' t'' : Told) (es fs : List LoggedEvent)
-    → Passes rules w h r t es w' h' r' t' → Passes rules w' h' r' t' fs w'' h'' r'' t'' → Passes rules w h r t (es ++ fs) w'' h'' r'' t''
-passes_then rules w w' w'' h h' h'' r r' r'' t t' t'' es fs one two =
+pub passes_then : (k k' k'' : Rules) (w w' w'' : List LoggedEvent) (h h' h'' : Held) (r r' r'' : List Group) (t t' t'' : Told) (es fs : List LoggedEvent)
+    → Passes k w h r t es k' w' h' r' t' → Passes k' w' h' r' t' fs k'' w'' h'' r'' t'' → Passes k w h r t (es ++ fs) k'' w'' h'' r'' t''
+passes_then k k' k'' w w' w'' h h' h'' r r' r'' t t' t'' es fs one two =
     let o = one.ordered in
     let p = two.ordered in
     let gs = one.written in
@@ -67,7 +69,8 @@ passes_then rules w w' w'' h h' h'' r r' r'' t t' t'' es fs one two =
       follows = both_follow w w' w'' o p es fs one.follows two.follows;
       written = gs ++ hs;
       gathers = rw (append_assoc gs hs r'') (gathers_then h h' h'' o p r (gs ++ r') (gs ++ (hs ++ r'')) one.gathers (gathers_behind gs h' h'' p r' (hs ++ r'') two.gathers));
-      told = both_tell rules gs hs t t' t'' one.told two.told;
+      told = both_tell k gs hs t t' t'' one.told (subst (λ (x : Rules). TellsOf x hs t' t'') one.rules two.told);
+      rules = two.rules ∙ ap (rules_after hs) one.rules ∙ sym (rules_then gs hs k);
     }
 
 -- ---- events that go on
@@ -77,26 +80,23 @@ pub goes_none : (old new : Progress) (before after : Told) → new.head ≡ old.
 goes_none old new before after head retry waits held ready rules same = record {
   head = head;
   retry = retry;
-  rules = rules;
-  passes = rw (waits, held, ready) (passes_none old.rules old.waits old.held old.ready before after same);
+  passes = rw (waits, held, ready, rules) (passes_none old.rules old.waits old.held old.ready before after same);
 }
 
-pub goes_one : (e : LoggedEvent) (old : Progress) (before : Told) (new : Progress) (after : Told) → new.head ≡ old.head → new.retry ≡ old.retry → new.rules ≡ old.rules
-    → Passes old.rules old.waits old.held old.ready before (counted old.retry e) new.waits new.held new.ready after → Goes (e ∷ []) old before new after
-goes_one e old before new after head retry rules passes = record {
+pub goes_one : (e : LoggedEvent) (old : Progress) (before : Told) (new : Progress) (after : Told) → new.head ≡ old.head → new.retry ≡ old.retry
+    → Passes old.rules old.waits old.held old.ready before (counted old.retry e) new.rules new.waits new.held new.ready after → Goes (e ∷ []) old before new after
+goes_one e old before new after head retry passes = record {
   head = head;
   retry = retry;
-  rules = rules;
   passes = rw (append-nil (counted old.retry e)) passes;
 }
 
 pub goes_then : (es fs : List LoggedEvent) (a b c : Progress) (t t' t'' : Told) → Goes es a t b t' → Goes fs b t' c t'' → Goes (es ++ fs) a t c t''
 goes_then es fs a b c t t' t'' one two =
-    let again = rw (one.retry, one.rules) at two.passes in
+    let again = rw one.retry at two.passes in
     record {
       head = two.head ∙ one.head;
       retry = two.retry ∙ one.retry;
-      rules = two.rules ∙ one.rules;
       passes = rw (flat_map-append (counted a.retry) es fs)
-          (passes_then a.rules a.waits b.waits c.waits a.held b.held c.held a.ready b.ready c.ready t t' t'' (flat_map (counted a.retry) es) (flat_map (counted a.retry) fs) one.passes again);
+          (passes_then a.rules b.rules c.rules a.waits b.waits c.waits a.held b.held c.held a.ready b.ready c.ready t t' t'' (flat_map (counted a.retry) es) (flat_map (counted a.retry) fs) one.passes again);
     }

@@ -3,12 +3,14 @@ use Rattle.std.proofs.Common.{◌≡◌, ◌∙◌, ◌++◌, Bool, List, [], �
 use Rattle.std.proofs.lemmas.Grind.{flat_map-append}
 use Rattle.qa_base.specs.declared.per_space.PerSpace.{PerSpace}
 use Rattle.qa_convert.proofs.Losses.{leaves_more, leaves_then, names_only, only_none}
+use Rattle.qa_convert.proofs.Keyed.{both_keys, tells_no_keys}
 use Rattle.qa_convert.proofs.Sent.{lines_then, sized_and}
 use Rattle.qa_convert.specs.AckDelays.{AddsAllOrNone, Answers}
 use Rattle.qa_convert.specs.GroupLines.{AreAcked, TellsAcks, TellsOf, TellsSent, come_in, come_of, lost_by, lost_in_front, lost_of}
 use Rattle.qa_convert.specs.Losing.{Declares, NamesOnly, lost_in, packets_of}
-use Rattle.qa_convert.specs.Rules.{Rules}
-use Rattle.qa_convert.specs.Telling.{AckLine, AreLinesOf, SentLine, TimerLine, Told, Writes, sent_in, sent_of, sized}
+use Rattle.qa_convert.specs.KeyLines.{TellsKeys, keys_in}
+use Rattle.qa_convert.specs.Rules.{Rules, rules_after}
+use Rattle.qa_convert.specs.Telling.{AckLine, AreLinesOf, Retired, SentLine, TimerLine, Told, Writes, sent_in, sent_of, sized}
 use Rattle.qa_convert.specs.Timers.{AddsTimers, AreExpired, Expires, expired_in, expired_of}
 use Rattle.qa_convert.specs.declared.bare.Bare.{Bare}
 use Rattle.qa_convert.specs.declared.decoding.Decoding.{Decoding}
@@ -28,6 +30,7 @@ tells_none r before after same = rw same (record {
   acks = ([], sym (append-nil before.acks), refl);
   lost = only_none [] [] before before (λ s n. omega arith) refl;
   timers = ([], sym (append-nil before.timers), refl);
+  keys = tells_no_keys r.keys before before refl;
 })
 
 -- ---- one group
@@ -38,12 +41,12 @@ SentOf s g what before after = (lines : List SentLine) × (after.sent ≡ before
 no_sent : (before after : Told) → after.sent ≡ before.sent → after.sent ≡ before.sent ++ []
 no_sent before after same = same ∙ sym (append-nil before.sent)
 
-sent_one : (s g : Bool) (what : About) (before after : Told) → Writes s g what before after → SentOf s g what before after
-sent_one s g (about.Sent ps) before after writes = (writes.lines, ap (λ (t : Told). t.sent) writes.told, rw (append-nil ps.items) writes.are)
-sent_one s g (about.Received p ls) before after same = ([], no_sent before after same, refl)
-sent_one s g (about.Lost ls) before after same = ([], no_sent before after same.0, refl)
-sent_one s g (about.Expired at timer) before after same = ([], no_sent before after same.0, refl)
-sent_one s g (about.Other e) before after same = ([], no_sent before after (ap (λ (t : Told). t.sent) same), refl)
+sent_one : (s g : Bool) (retired : Retired) (what : About) (before after : Told) → Writes s g retired what before after → SentOf s g what before after
+sent_one s g retired (about.Sent ps) before after writes = (writes.lines, ap (λ (t : Told). t.sent) writes.told, rw (append-nil ps.items) writes.are)
+sent_one s g retired (about.Received p ls) before after same = ([], no_sent before after same, refl)
+sent_one s g retired (about.Lost ls) before after same = ([], no_sent before after same, refl)
+sent_one s g retired (about.Expired at timer) before after same = ([], no_sent before after same, refl)
+sent_one s g retired (about.Other e) before after same = ([], no_sent before after same, refl)
 
 abbrev AcksOf : Decoding → About → Told → Told → Type 0
 AcksOf d what before after = (lines : List AckLine) × (after.acks ≡ before.acks ++ lines) × AreAcked d (come_in what ++ []) lines
@@ -81,14 +84,15 @@ timers_one (about.Lost ls) before after same = no_timers before after same
 timers_one (about.Expired at e) before after adds = adds
 timers_one (about.Other e) before after same = no_timers before after same
 
-pub tells_one : (r : Rules) (bare : PerSpace Bare) (g : Group) (before after : Told) → Writes r.settles r.by_growth g.about before after
+pub tells_one : (r : Rules) (bare : PerSpace Bare) (g : Group) (before after : Told) → Writes r.settles r.by_growth r.keys.retired g.about before after
     → Answers r.decoding g.about before after → Declares bare g.about g.beside.items before after → Expires g.about before after
-    → TellsOf r (g ∷ []) before after
-tells_one r bare g before after writes acks lost timers = record {
-  sent = sent_one r.settles r.by_growth g.about before after writes;
+    → TellsKeys (keys_in g.about r.keys) before after → TellsOf r (g ∷ []) before after
+tells_one r bare g before after writes acks lost timers keys = record {
+  sent = sent_one r.settles r.by_growth r.keys.retired g.about before after writes;
   acks = acks_one r.decoding g.about before after acks;
   lost = rw (append-nil (lost_by g)) (lost_one bare g.about g.beside.items before after lost);
   timers = timers_one g.about before after timers;
+  keys = keys;
 }
 
 -- ---- groups behind others
@@ -138,10 +142,11 @@ both_timers gs hs a b c one two =
       rw (flat_map-append (λ (g : Group). expired_in g.about) gs hs) (expired_then (expired_of gs) (expired_of hs) ks ls one.2 two.2),
     )
 
-pub both_tell : (r : Rules) (gs hs : List Group) (a b c : Told) → TellsOf r gs a b → TellsOf r hs b c → TellsOf r (gs ++ hs) a c
+pub both_tell : (r : Rules) (gs hs : List Group) (a b c : Told) → TellsOf r gs a b → TellsOf (rules_after gs r) hs b c → TellsOf r (gs ++ hs) a c
 both_tell r gs hs a b c one two = record {
   sent = both_sent r gs hs a b c one.sent two.sent;
   acks = both_acked r.decoding gs hs a b c one.acks two.acks;
   lost = rw (flat_map-append lost_by gs hs) (both_lost (lost_of gs) (lost_of hs) a b c one.lost two.lost);
   timers = both_timers gs hs a b c one.timers two.timers;
+  keys = both_keys gs hs r.keys a b c one.keys two.keys;
 }

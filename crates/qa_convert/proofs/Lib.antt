@@ -8,6 +8,7 @@ pub mod Goes
 pub mod GroupTold
 pub mod Grouped
 pub mod Guessed
+pub mod Keyed
 pub mod Losses
 pub mod Marked
 pub mod Named

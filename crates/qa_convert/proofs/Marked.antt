@@ -176,6 +176,8 @@ alike p q same =
       same guess.ProbeByRoom,
       same guess.ProbeByTrigger,
       same guess.LossTimer,
+      same guess.Discard,
+      same guess.Confirmed,
     ) refl
 
 -- no text has marks

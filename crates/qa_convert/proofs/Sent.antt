@@ -1,13 +1,18 @@
 -- Lines of packets that were sent.
-use Rattle.std.proofs.Common.{◌≡◌, ◌∙◌, ◌||◌, ℕ, zero, suc, Bool, true, false, Option, Some, List, [], ◌∷◌, ◌++◌, get_or, append-nil, append_assoc, refl, sym, ap}
+use Rattle.std.proofs.Common.{◌≡◌, ◌∙◌, ◌||◌, ℕ, zero, suc, Bool, true, false, Option, Some, List, [], ◌∷◌, ◌++◌, get_or, append-nil, append_assoc, refl, sym, ap, ap₂}
 use Rattle.std.proofs.lemmas.Bool.Decides.{Decides-eqb}
+use Rattle.std.specs.Option.{is_some}
 use Rattle.std.specs.Prelude.{◌&&◌, nat_eq, not}
 use Rattle.std.proofs.Math.ListN.{set}
 use Rattle.qa_base.specs.declared.space.Permission.{Permission}
 use Rattle.qa_base.specs.declared.space.Permission.TheVariants.{Window, Probe, Recovery}
+use Rattle.qa_base.specs.declared.space.Space.{Space}
+use Rattle.qa_base.specs.values.PerSpace.{of_space}
 use Rattle.qa_qlog.specs.Frames.{is_in_flight}
+use Rattle.qa_convert.proofs.Keyed.{all_and, no_gone}
+use Rattle.qa_convert.specs.KeyLines.{Retires}
 use Rattle.qa_convert.specs.Sending.{AreOf, AreWrittenOf, IsOf, IsWrittenOf, Wrote, line_of}
-use Rattle.qa_convert.specs.Telling.{AreLinesOf, IsLineOf, SentLine, Told, next_marks, says_leave, sized, will_say, with_sent, with_size}
+use Rattle.qa_convert.specs.Telling.{AreLinesOf, IsLineOf, Retired, SentLine, Told, next_marks, says_leave, sized, will_say, with_gone, with_sent, with_size}
 use Rattle.qa_convert.specs.declared.groups.PacketAt.{PacketAt}
 use Rattle.qa_convert.specs.declared.guess.Guess.{Guess}
 use Rattle.qa_convert.specs.declared.guess.Guess.TheVariants as guess
@@ -79,11 +84,15 @@ set_are s g (p ∷ ps) [] i d new are step = absurd are
 set_are s g (p ∷ ps) (o ∷ os) zero d new are step = (step p are.0, are.1)
 set_are s g (p ∷ ps) (o ∷ os) (suc i) d new are step = (are.0, set_are s g ps os i d new are.1 step)
 
-pub more_sent : (t : Told) (ls more : List SentLine) → with_sent (with_sent t ls) more ≡ with_sent t (ls ++ more)
-more_sent t ls more = ap (λ (all : List SentLine). record t { sent = all }) (append_assoc t.sent ls more)
+abbrev pub sent_and_gone : Told → List SentLine → List Space → Told
+sent_and_gone t ls ss = with_gone (with_sent t ls) ss
 
-pub none_sent : (t : Told) → t ≡ with_sent t []
-none_sent t = ap (λ (all : List SentLine). record t { sent = all }) (sym (append-nil t.sent))
+more_sent : (t : Told) (ls more : List SentLine) (ss rest : List Space) → sent_and_gone (sent_and_gone t ls ss) more rest ≡ sent_and_gone t (ls ++ more) (ss ++ rest)
+more_sent t ls more ss rest =
+    ap₂ (λ (sent : List SentLine) (gone : List Space). record t { sent = sent; keys = record { came = t.keys.came; gone = gone } }) (append_assoc t.sent ls more) (append_assoc t.keys.gone ss rest)
+
+pub none_sent : (t : Told) → t ≡ sent_and_gone t [] []
+none_sent t = ap₂ (λ (sent : List SentLine) (gone : List Space). record t { sent = sent; keys = record { came = t.keys.came; gone = gone } }) (sym (append-nil t.sent)) (sym (append-nil t.keys.gone))
 
 -- ---- lines that were written
 
@@ -92,18 +101,37 @@ written_and [] more ls ms first second = rw first second
 written_and (o ∷ os) more [] ms first second = absurd first
 written_and (o ∷ os) more (l ∷ ls) ms first second = (first.0, written_and os more ls ms first.1 second)
 
-pub wrote_none : (t : Told) → Wrote [] t t
-wrote_none t = record { lines = []; are = refl; told = none_sent t }
+pub wrote_none : (retired : Retired) (t : Told) → Wrote retired [] t t
+wrote_none retired t = record { lines = []; are = refl; spaces = []; gone = tt; told = none_sent t }
 
-pub wrote_more : (os more : List Outgoing) (a b c : Told) → Wrote os a b → Wrote more b c → Wrote (os ++ more) a c
-wrote_more os more a b c first second = record {
+pub wrote_more : (retired : Retired) (os more : List Outgoing) (a b c : Told) → Wrote retired os a b → Wrote retired more b c → Wrote retired (os ++ more) a c
+wrote_more retired os more a b c first second = record {
   lines = first.lines ++ second.lines;
   are = written_and os more first.lines second.lines first.are second.are;
-  told = second.told ∙ ap (λ t. with_sent t second.lines) first.told ∙ more_sent a first.lines second.lines;
+  spaces = first.spaces ++ second.spaces;
+  gone = all_and (λ s. is_some (of_space s retired) ≡ true) first.spaces second.spaces first.gone second.gone;
+  told = second.told ∙ ap (λ t. sent_and_gone t second.lines second.spaces) first.told ∙ more_sent a first.lines second.lines first.spaces second.spaces;
 }
 
-pub wrote_one : (o : Outgoing) (says : Bool) (a b : Told) → b ≡ with_sent a (line_of o says ∷ []) → (o.is_size_guessed ≡ true → says ≡ true) → Wrote (o ∷ []) a b
-wrote_one o says a b is guess = record { lines = line_of o says ∷ []; are = (record { line = refl; guess = guess }, refl); told = is }
+pub wrote_one : (retired : Retired) (o : Outgoing) (says : Bool) (a b : Told) → b ≡ with_sent a (line_of o says ∷ []) → (o.is_size_guessed ≡ true → says ≡ true) → Wrote retired (o ∷ []) a b
+wrote_one retired o says a b is guess = record {
+  lines = line_of o says ∷ [];
+  are = (record { line = refl; guess = guess }, refl);
+  spaces = [];
+  gone = tt;
+  told = is ∙ no_gone (with_sent a (line_of o says ∷ []));
+}
+
+-- what the log told of keys that are gone, and then lines of packets
+pub wrote_behind : (retired : Retired) (os : List Outgoing) (a b c : Told) → Retires retired a b → Wrote retired os b c → Wrote retired os a c
+wrote_behind retired os a b c one two = record {
+  lines = two.lines;
+  are = two.are;
+  spaces = one.spaces ++ two.spaces;
+  gone = all_and (λ s. is_some (of_space s retired) ≡ true) one.spaces two.spaces one.gone two.gone;
+  told = two.told ∙ ap (λ t. sent_and_gone t two.lines two.spaces) one.told
+      ∙ ap (λ (all : List Space). record (with_sent a two.lines) { keys = record { came = a.keys.came; gone = all } }) (append_assoc a.keys.gone one.spaces two.spaces);
+}
 
 -- ---- groups
 

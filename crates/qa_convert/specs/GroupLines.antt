@@ -1,9 +1,10 @@
 -- What the lines of groups tell: of packets that were sent, of acknowledgments that came, of
--- packets that were declared lost, and of timers that expired.
+-- packets that were declared lost, of timers that expired, and of keys.
 use Rattle.std.specs.Prelude.{◌≡◌, ◌⊎◌, ◌++◌, List, [], ◌∷◌, flat_map}
 use Rattle.std.specs.List.{AllZip}
 use Rattle.qa_convert.specs.AckDelays.{IsLineOfAck, naming}
 use Rattle.qa_convert.specs.Losing.{NamesOnly, lost_in, packets_of}
+use Rattle.qa_convert.specs.KeyLines.{TellsKeys, keys_after}
 use Rattle.qa_convert.specs.Rules.{Rules}
 use Rattle.qa_convert.specs.Timers.{AddsTimers, expired_of}
 use Rattle.qa_convert.specs.Telling.{AckLine, AreLinesOf, SentLine, Told, sent_of, sized}
@@ -69,3 +70,4 @@ pub record TellsOf (r : Rules) (gs : List Group) (before after : Told) : Type 0 
   pub acks : TellsAcks r.decoding gs before after
   pub lost : NamesOnly (lost_of gs) before after
   pub timers : AddsTimers (expired_of gs) before after
+  pub keys : TellsKeys (keys_after gs r.keys) before after

@@ -7,12 +7,13 @@ pub mod Gathering
 pub mod GroupLines
 pub mod Groups
 pub mod Guesses
+pub mod KeyLines
 pub mod Losing
 pub mod Marks
-pub mod Packets
 pub mod Orders
 pub mod Outputs
 pub mod OwnKeys
+pub mod Packets
 pub mod Passing
 pub mod Places
 pub mod Reading

@@ -35,14 +35,16 @@ unfoldable pub says_guess : Guess → List ℕ → Bool
 says_guess g text = is_said g (json_of text)
 
 -- which guesses a line says: that of the size of a packet; those of the leave by which it was
--- sent, a probe's or that of the entry into recovery; that the window was not used; and that of a
--- timer that expired
+-- sent, a probe's or that of the entry into recovery; that the window was not used; that of a timer
+-- that expired; that keys are gone; and that the handshake is confirmed
 pub record Marks : Type 0 where
   pub size : Bool
   pub probe : Bool
   pub recovery : Bool
   pub limited : Bool
   pub timer : Bool
+  pub discard : Bool
+  pub confirmed : Bool
 
 abbrev pub marks_by : (Guess → Bool) → Marks
 marks_by is_said = record {
@@ -52,6 +54,8 @@ marks_by is_said = record {
   limited = is_said guess.LimitedByWindow;
   timer = is_said guess.ProbeByCount || is_said guess.ProbeByPing || is_said guess.ProbeByRoom
       || is_said guess.ProbeByTrigger || is_said guess.LossTimer;
+  discard = is_said guess.Discard;
+  confirmed = is_said guess.Confirmed;
 }
 
 -- those that the text of a line says

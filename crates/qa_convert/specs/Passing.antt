@@ -1,12 +1,12 @@
 -- Events on their way from the log to the lines: each joins those that wait for their order, and
 -- goes on into groups.
-use Rattle.std.specs.Prelude.{◌++◌, ◌||◌, ℕ, Bool, false, List, [], ◌∷◌, Option, Some}
+use Rattle.std.specs.Prelude.{◌≡◌, ◌++◌, ◌||◌, ℕ, Bool, false, List, [], ◌∷◌, Option, Some}
 use Rattle.std.specs.Prelude.{None, if◌then◌else◌, nat_le, nat_lt, unwrap_or}
 use Rattle.qa_base.specs.values.PerSpace.{of_space}
 use Rattle.qa_convert.specs.GroupLines.{TellsOf}
 use Rattle.qa_convert.specs.Groups.{Ends, Gathers, Held}
 use Rattle.qa_convert.specs.Orders.{Follows, LetsGo}
-use Rattle.qa_convert.specs.Rules.{Rules}
+use Rattle.qa_convert.specs.Rules.{Rules, rules_after}
 use Rattle.qa_convert.specs.Telling.{Told}
 use Rattle.qa_convert.specs.declared.event.LoggedEvent.{LoggedEvent}
 use Rattle.qa_convert.specs.declared.event.Said.{Said}
@@ -50,13 +50,14 @@ waiting events order = events ++ unwrap_or order []
 -- more events come: they join those that wait, some of these go on into groups, and groups leave
 -- the queue in which they are handed out, to be written: the lines tell of them
 pub record Passes (r : Rules) (waits : List LoggedEvent) (old : Held) (ready : List Group)
-    (before : Told) (more waits' : List LoggedEvent) (new : Held) (ready' : List Group)
-    (after : Told) : Type 0 where
+    (before : Told) (more : List LoggedEvent) (r' : Rules) (waits' : List LoggedEvent)
+    (new : Held) (ready' : List Group) (after : Told) : Type 0 where
   pub ordered : List LoggedEvent
   pub follows : Follows waits more (ordered ++ waits')
   pub written : List Group
   pub gathers : Gathers old ordered new ready (written ++ ready')
   pub told : TellsOf r written before after
+  pub rules : r' ≡ rules_after written r
 
 -- the log ends: the events that wait go on into groups, and what is held is handed out: the lines
 -- tell of it

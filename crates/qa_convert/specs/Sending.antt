@@ -1,7 +1,9 @@
 -- Packets that are sent, with the sizes that they have by now.
 use Rattle.std.specs.Prelude.{◌≡◌, ◌||◌, Bool, true, false, List, [], ◌∷◌, Some}
+use Rattle.qa_base.specs.declared.space.Space.{Space}
 use Rattle.qa_qlog.specs.Frames.{is_in_flight}
-use Rattle.qa_convert.specs.Telling.{SentLine, Told, may_settle, with_sent}
+use Rattle.qa_convert.specs.Telling.{AreRetired, Retired, SentLine, Told, may_settle, with_gone}
+use Rattle.qa_convert.specs.Telling.{with_sent}
 use Rattle.qa_convert.specs.declared.packet.LoggedPacket.{LoggedPacket}
 use Rattle.qa_convert.specs.declared.sending.Outgoing.{Outgoing}
 
@@ -29,11 +31,13 @@ AreWrittenOf [] ls = ls ≡ []
 AreWrittenOf (o ∷ os) [] = ⊥
 AreWrittenOf (o ∷ os) (l ∷ ls) = IsWrittenOf o l × AreWrittenOf os ls
 
--- the lines of packets were written, and none else of packets
-pub record Wrote (os : List Outgoing) (before after : Told) : Type 0 where
+-- the lines of packets were written, and perhaps that keys are gone, of which the log told
+pub record Wrote (retired : Retired) (os : List Outgoing) (before after : Told) : Type 0 where
   pub lines : List SentLine
   pub are : AreWrittenOf os lines
-  pub told : after ≡ with_sent before lines
+  pub spaces : List Space
+  pub gone : AreRetired retired spaces
+  pub told : after ≡ with_gone (with_sent before lines) spaces
 
 -- a packet is that of the log; its size is the log's unless the growth of the bytes in flight may
 -- show another; unless all sizes are taken by that growth, a size that was guessed is a guess until

@@ -11,6 +11,7 @@ use Rattle.qa_convert.specs.Groups.{Held, at_start}
 use Rattle.qa_convert.specs.Passing.{Passes, counted, waiting}
 use Rattle.qa_convert.specs.Reading.{SaysOf, at_of, chosen_only, clock_after, clock_before}
 use Rattle.qa_convert.specs.Reading.{connections_after, event_at, events_at, name_of, next_index}
+use Rattle.qa_convert.specs.KeyLines.{no_keys}
 use Rattle.qa_convert.specs.Rules.{Rules, rules_of}
 use Rattle.qa_convert.specs.Telling.{Told, told_in}
 use Rattle.qa_convert.specs.declared.clock.Clock.{Clock}
@@ -26,8 +27,7 @@ use Rattle.qa_convert.specs.declared.survey.Retry.{Retry}
 
 -- how far a log is read: its head, a Retry behind which its trace begins, the clock, the
 -- connections that were named, the index of the next record, the events that wait for their order,
--- those that are held in groups, the groups that are not written, and what stays the same for the
--- whole log
+-- those that are held in groups, the groups that are not written, and by what lines are written
 pub record Progress : Type 0 where
   pub head : Head
   pub retry : Option Retry
@@ -52,8 +52,8 @@ progress_of c = record {
   rules = rules_of c.conversion;
 }
 
--- no record is read, the connection of this number is converted, and delays, sizes, reports and
--- limits are read as this dialect says
+-- no record is read, the connection of this number is converted, delays, sizes, reports and limits
+-- are read as this dialect says, and nothing is told of keys
 pub record Begins (h : Head) (chosen : ℕ) (d : Dialect) (p : Progress) : Type 0 where
   pub head : p.head ≡ h
   pub clock : p.clock ≡ clock_before h
@@ -66,20 +66,19 @@ pub record Begins (h : Head) (chosen : ℕ) (d : Dialect) (p : Progress) : Type 
   pub is_encoded : p.rules.decoding.is_encoded ≡ d.delay_is_encoded
   pub limited : p.rules.decoding.limited ≡ d.limited
   pub by_growth : p.rules.by_growth ≡ d.sizes_by_growth
+  pub keys : p.rules.keys ≡ no_keys
 
 -- what its lines tell
 abbrev pub told_of : Converting → Told
 told_of c = told_in c.conversion.writing
 
--- these events went on, but for those that are left out, and nothing else did; the log is read as
--- before
+-- these events went on, but for those that are left out, and nothing else did
 pub record Goes (es : List LoggedEvent) (old : Progress) (before : Told) (new : Progress)
     (after : Told) : Type 0 where
   pub head : new.head ≡ old.head
   pub retry : new.retry ≡ old.retry
-  pub rules : new.rules ≡ old.rules
   pub passes : Passes old.rules old.waits old.held old.ready before
-      (flat_map (counted old.retry) es) new.waits new.held new.ready after
+      (flat_map (counted old.retry) es) new.rules new.waits new.held new.ready after
 
 -- the record whose value is j was read, and the events that it says went on
 pub record Takes (j : Json) (place : Place) (old : Progress) (before : Told) (new : Progress)

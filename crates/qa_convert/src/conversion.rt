@@ -2,7 +2,8 @@
 ghost use Rattle.std.specs.Prelude.{◌≡◌, IfOk, OnOk, false, true};
 ghost use Rattle.qa_convert.specs.AckDelays.{Answers, decoding_of, is_by_state};
 ghost use Rattle.qa_convert.specs.Losing.{Declares};
-ghost use Rattle.qa_convert.specs.Rules.{rules_of};
+ghost use Rattle.qa_convert.specs.KeyLines.{OnlyKeys, TellsKeys, keys_by, keys_in, known_by, no_keys};
+ghost use Rattle.qa_convert.specs.Rules.{rules_behind, rules_by, rules_of};
 ghost use Rattle.qa_convert.specs.Timers.{Expires};
 ghost use Rattle.qa_convert.specs.Telling.{Writes, next_marks, says_limited, told_in};
 
@@ -123,6 +124,7 @@ impl Conversion {
     pub(crate) fn new(terms: Terms, survey: &Survey, writing: Writing) -> Conversion
         ensures terms { result.terms ≡ terms }
         ensures writing { result.writing ≡ writing }
+        ensures keys { known_by result.keys ≡ no_keys }
     {
         let none = PerSpace {
             initial: None,
@@ -158,15 +160,18 @@ impl Conversion {
     /// Writes the lines of a group.
     pub(crate) fn write(&mut self, group: Group) -> Result<(), NoLine>
         ensures sent { OnOk result (Writes self.old.known.settles_sizes
-            self.old.terms.dialect.sizes_by_growth group.about (told_in self.old.writing)
-            (told_in self.new.writing)) }
+            self.old.terms.dialect.sizes_by_growth self.old.keys.retired group.about
+            (told_in self.old.writing) (told_in self.new.writing)) }
         ensures lost { OnOk result (Declares self.old.writing.bare group.about
             group.beside.items (told_in self.old.writing) (told_in self.new.writing)) }
         ensures timers { OnOk result (Expires group.about (told_in self.old.writing)
             (told_in self.new.writing)) }
+        ensures keys { OnOk result (TellsKeys (keys_in group.about (known_by self.old.keys))
+            (told_in self.old.writing) (told_in self.new.writing)) }
         ensures delays { OnOk result (Answers (decoding_of self.old) group.about
             (told_in self.old.writing) (told_in self.new.writing)) }
-        ensures rules { OnOk result (rules_of self.new ≡ rules_of self.old) }
+        ensures rules { OnOk result (rules_of self.new
+            ≡ rules_behind group.about (rules_of self.old)) }
     {
         let Group { about, beside } = group;
         match about {
@@ -190,8 +195,11 @@ impl Conversion {
 
     /// Writes what an event says that is of no group.
     fn on_other(&mut self, event: &LoggedEvent) -> Result<(), NoLine>
-        ensures told { OnOk result (told_in self.new.writing ≡ told_in self.old.writing) }
-        ensures rules { OnOk result (rules_of self.new ≡ rules_of self.old) }
+        ensures keys { OnOk result (OnlyKeys
+            (keys_by event.now.at.place event.now.said (known_by self.old.keys))
+            (told_in self.old.writing) (told_in self.new.writing)) }
+        ensures rules { OnOk result (rules_of self.new
+            ≡ rules_by event.now.at.place event.now.said (rules_of self.old)) }
     {
         match &event.said {
             Said::KeysCame(space) => self.keys.on_keys_came(&mut self.writing, event.at, *space),

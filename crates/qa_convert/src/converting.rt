@@ -9,7 +9,7 @@ ghost use Rattle.qa_convert.specs.Orders.{Follows, LetsGo};
 ghost use Rattle.qa_convert.specs.Passing as passing;
 ghost use Rattle.qa_convert.specs.Passing.{Closes, Passes, counted, waiting};
 ghost use Rattle.qa_convert.specs.Reading.{GivesSize, SaysAll, SaysLosses, SaysSized, events_at};
-ghost use Rattle.qa_convert.specs.Rules.{rules_of};
+ghost use Rattle.qa_convert.specs.Rules.{rules_after, rules_of};
 ghost use Rattle.qa_convert.specs.Taking.{Begins, Goes, Takes, TakesUnread, progress_of, told_of};
 ghost use Rattle.qa_convert.specs.Telling.{told_in};
 ghost use Rattle.qa_convert.specs.declared.event.Said.{Said as Kept};
@@ -230,9 +230,8 @@ impl Converting {
         ensures passes { OnOk result (Passes (rules_of self.old.conversion)
             (waiting self.old.events.items self.old.order) self.old.groups self.old.ready.items
             (told_in self.old.conversion.writing) (counted self.old.retry event)
-            (waiting self.new.events.items self.new.order) self.new.groups self.new.ready.items
-            (told_in self.new.conversion.writing)) }
-        ensures rules { OnOk result (rules_of self.new.conversion ≡ rules_of self.old.conversion) }
+            (rules_of self.new.conversion) (waiting self.new.events.items self.new.order)
+            self.new.groups self.new.ready.items (told_in self.new.conversion.writing)) }
         ensures head { self.new.head ≡ self.old.head }
         ensures cursor { self.new.cursor ≡ self.old.cursor }
         ensures retry { self.new.retry ≡ self.old.retry }
@@ -281,10 +280,9 @@ impl Converting {
     fn arrange(&mut self, event: LoggedEvent) -> Result<(), NoLine>
         ensures passes { OnOk result (Passes (rules_of self.old.conversion)
             (waiting self.old.events.items self.old.order) self.old.groups self.old.ready.items
-            (told_in self.old.conversion.writing) (event ∷ [])
+            (told_in self.old.conversion.writing) (event ∷ []) (rules_of self.new.conversion)
             (waiting self.new.events.items self.new.order) self.new.groups self.new.ready.items
             (told_in self.new.conversion.writing)) }
-        ensures rules { OnOk result (rules_of self.new.conversion ≡ rules_of self.old.conversion) }
         ensures head { self.new.head ≡ self.old.head }
         ensures cursor { self.new.cursor ≡ self.old.cursor }
         ensures retry { self.new.retry ≡ self.old.retry }
@@ -337,7 +335,8 @@ impl Converting {
         ensures told { OnOk result (TellsOf (rules_of self.old.conversion)
             self.old.ready.items (told_in self.old.conversion.writing)
             (told_in self.new.conversion.writing)) }
-        ensures rules { OnOk result (rules_of self.new.conversion ≡ rules_of self.old.conversion) }
+        ensures rules { OnOk result (rules_of self.new.conversion
+            ≡ rules_after self.old.ready.items (rules_of self.old.conversion)) }
         ensures events { self.new.events.items ≡ self.old.events.items }
         ensures order { self.new.order ≡ self.old.order }
         ensures groups { self.new.groups ≡ self.old.groups }

@@ -4,18 +4,20 @@
 //! and the Handshake keys when HANDSHAKE_DONE comes (RFC 9001, section 4.9). A server drops them
 //! with the first Handshake packet that comes, and at the end of the handshake, each at the event
 //! behind which the reported bytes in flight have lost those of the space.
-ghost use Rattle.std.specs.Prelude.{◌≡◌, OnOk};
+ghost use Rattle.std.specs.Prelude.{◌≡◌, OnOk, true};
+ghost use Rattle.qa_base.specs.declared.space.Space.TheVariants as a_space;
 ghost use Rattle.qa_convert.specs.AckDelays.{is_gone};
+ghost use Rattle.qa_convert.specs.KeyLines.{Discards, OnlyKeys, Retires, come_of, known_by, no_keys};
+ghost use Rattle.qa_convert.specs.KeyLines.{retired_at, with_come};
 ghost use Rattle.qa_convert.specs.Telling.{told_in};
 
 use crate::event::At;
-use crate::guess::Guess;
 use crate::packet::LoggedPacket;
 use crate::place::Place;
 use crate::size::PacketSize;
 use crate::survey::Survey;
 use crate::writing::{NoLine, Writing};
-use qa_base::{Event, Role, Space};
+use qa_base::{PerSpace, Role, Space};
 
 /// Which keys are there and which are gone.
 #[derive(Clone, Copy)]
@@ -25,9 +27,10 @@ pub(crate) struct Keys {
     pub(crate) has_keys: bool,
     initial_is_gone: bool,
     handshake_is_gone: bool,
-    /// Where the log says that a client's Initial keys are gone, in front of its first Handshake
-    /// packet: they are gone once the Initial packet of the same datagram is logged.
-    initial_due: Option<Place>,
+    /// Where the log told that the keys of a space are gone. If it says so of a client's Initial
+    /// keys in front of its first Handshake packet, they are gone once the Initial packet of the
+    /// same datagram is logged.
+    retired: PerSpace<Option<Place>>,
     has_sent: bool,
     /// Whether the log tells of no discard.
     initial_is_untold: bool,
@@ -58,14 +61,20 @@ impl Turns {
 
 impl Keys {
     /// At the beginning of a log.
-    pub(crate) fn new(role: Role, survey: &Survey) -> Keys {
+    pub(crate) fn new(role: Role, survey: &Survey) -> Keys
+        ensures { known_by result ≡ no_keys }
+    {
         Keys {
             is_client: role == Role::Client,
             is_confirmed: false,
             has_keys: false,
             initial_is_gone: false,
             handshake_is_gone: false,
-            initial_due: None,
+            retired: PerSpace {
+                initial: None,
+                handshake: None,
+                app: None,
+            },
             has_sent: false,
             initial_is_untold: !survey.retired.initial,
             handshake_is_untold: !survey.retired.handshake,
@@ -92,8 +101,10 @@ impl Keys {
 
     /// The Handshake keys are there.
     pub(crate) fn take_keys(&mut self, writing: &mut Writing, at: At) -> Result<(), NoLine>
-        ensures told { OnOk result (told_in writing.new ≡ told_in writing.old) }
+        ensures keys { OnOk result (OnlyKeys (known_by self.new) (told_in writing.old)
+            (told_in writing.new)) }
         ensures unit { OnOk result (writing.new.output.unit ≡ writing.old.output.unit) }
+        ensures known { OnOk result (known_by self.new ≡ with_come true (known_by self.old)) }
     {
         if self.has_keys {
             return Ok(());
@@ -105,63 +116,59 @@ impl Keys {
         Ok(())
     }
 
-    /// The handshake is confirmed.
-    fn confirm(&mut self, writing: &mut Writing, at: At) -> Result<(), NoLine>
-        ensures told { OnOk result (told_in writing.new ≡ told_in writing.old) }
+    /// The handshake is confirmed: the log tells there that the Handshake keys are gone, or this is
+    /// a guess.
+    fn confirm(&mut self, writing: &mut Writing, at: At, told: Option<Place>) -> Result<(), NoLine>
+        ensures told { OnOk result (Discards told a_space.Handshake (told_in writing.old)
+            (told_in writing.new)) }
         ensures unit { OnOk result (writing.new.output.unit ≡ writing.old.output.unit) }
+        ensures known { OnOk result (known_by self.new ≡ known_by self.old) }
     {
         if self.is_confirmed {
             return Ok(());
         }
         self.is_confirmed = true;
-        if self.handshake_is_untold {
-            writing.guess(Guess::Confirmed)?;
-        }
-        writing.confirmed(at)
+        writing.confirmed(at, told)
     }
 
-    /// The Initial keys are gone.
-    pub(crate) fn discard_initial(&mut self, writing: &mut Writing, at: At) -> Result<(), NoLine>
-        ensures told { OnOk result (told_in writing.new ≡ told_in writing.old) }
+    /// The Initial keys are gone: the log tells it there, or this is a guess.
+    pub(crate) fn discard_initial(
+        &mut self,
+        writing: &mut Writing,
+        at: At,
+        told: Option<Place>,
+    ) -> Result<(), NoLine>
+        ensures told { OnOk result (Discards told a_space.Initial (told_in writing.old)
+            (told_in writing.new)) }
         ensures unit { OnOk result (writing.new.output.unit ≡ writing.old.output.unit) }
+        ensures known { OnOk result (known_by self.new ≡ known_by self.old) }
     {
         if self.initial_is_gone {
             return Ok(());
         }
         self.initial_is_gone = true;
-        writing.flights.of_mut(Space::Initial).clear();
-        if self.initial_is_untold {
-            writing.guess(Guess::Discard)?;
-        }
-        let place = self.initial_due.unwrap_or(at.place);
-        let time = writing.next_time(at.time)?;
-        let space = Space::Initial;
-        writing
-            .output
-            .write(Event::Discard { time, space }, place, place)?;
-        Ok(())
+        writing.discard(at, Space::Initial, told)
     }
 
-    /// The Handshake keys are gone, and the handshake is confirmed.
-    fn discard_handshake(&mut self, writing: &mut Writing, at: At) -> Result<(), NoLine>
-        ensures told { OnOk result (told_in writing.new ≡ told_in writing.old) }
+    /// The Handshake keys are gone, and the handshake is confirmed: the log tells it there, or this
+    /// is a guess.
+    fn discard_handshake(
+        &mut self,
+        writing: &mut Writing,
+        at: At,
+        told: Option<Place>,
+    ) -> Result<(), NoLine>
+        ensures told { OnOk result (Discards told a_space.Handshake (told_in writing.old)
+            (told_in writing.new)) }
         ensures unit { OnOk result (writing.new.output.unit ≡ writing.old.output.unit) }
+        ensures known { OnOk result (known_by self.new ≡ known_by self.old) }
     {
         if self.handshake_is_gone {
             return Ok(());
         }
-        self.confirm(writing, at)?;
+        self.confirm(writing, at, told)?;
         self.handshake_is_gone = true;
-        writing.flights.of_mut(Space::Handshake).clear();
-        if self.handshake_is_untold {
-            writing.guess(Guess::Discard)?;
-        }
-        let time = writing.next_time(at.time)?;
-        let space = Space::Handshake;
-        writing
-            .output
-            .write(Event::Discard { time, space }, at.place, at.place)?;
-        Ok(())
+        writing.discard(at, Space::Handshake, told)
     }
 
     /// The log tells that keys came.
@@ -171,8 +178,11 @@ impl Keys {
         at: At,
         space: Option<Space>,
     ) -> Result<(), NoLine>
-        ensures told { OnOk result (told_in writing.new ≡ told_in writing.old) }
+        ensures keys { OnOk result (OnlyKeys (known_by self.new) (told_in writing.old)
+            (told_in writing.new)) }
         ensures unit { OnOk result (writing.new.output.unit ≡ writing.old.output.unit) }
+        ensures known { OnOk result (known_by self.new
+            ≡ with_come (come_of space) (known_by self.old)) }
     {
         if space == Some(Space::Handshake) {
             self.take_keys(writing, at)
@@ -188,19 +198,23 @@ impl Keys {
         at: At,
         space: Option<Space>,
     ) -> Result<(), NoLine>
-        ensures told { OnOk result (told_in writing.new ≡ told_in writing.old) }
+        ensures told { OnOk result (Retires self.new.retired (told_in writing.old)
+            (told_in writing.new)) }
+        ensures came { OnOk result (self.new.has_keys ≡ self.old.has_keys) }
         ensures unit { OnOk result (writing.new.output.unit ≡ writing.old.output.unit) }
+        ensures retired { OnOk result (self.new.retired
+            ≡ retired_at at.place space self.old.retired) }
     {
+        let Some(space) = space else {
+            return Ok(());
+        };
+        *self.retired.of_mut(space) = Some(at.place);
+        let told = *self.retired.of(space);
         match space {
-            Some(Space::Initial) => {
-                if self.is_client && !self.has_sent {
-                    self.initial_due = Some(at.place);
-                    return Ok(());
-                }
-                self.discard_initial(writing, at)
-            }
-            Some(Space::Handshake) => self.discard_handshake(writing, at),
-            _ => Ok(()),
+            Space::Initial if self.is_client && !self.has_sent => Ok(()),
+            Space::Initial => self.discard_initial(writing, at, told),
+            Space::Handshake => self.discard_handshake(writing, at, told),
+            Space::App => Ok(()),
         }
     }
 
@@ -215,17 +229,18 @@ impl Keys {
     ) -> Result<(), NoLine>
         ensures told { OnOk result (told_in writing.new ≡ told_in writing.old) }
         ensures unit { OnOk result (writing.new.output.unit ≡ writing.old.output.unit) }
+        ensures known { OnOk result (known_by self.new ≡ known_by self.old) }
     {
         if self.initial_is_pending {
             if !self.is_shown(writing, Space::Initial, reported, change) {
                 return Ok(());
             }
             self.initial_is_pending = false;
-            self.discard_initial(writing, at)?;
+            self.discard_initial(writing, at, None)?;
         }
         if self.handshake_is_pending && self.is_shown(writing, Space::Handshake, reported, change) {
             self.handshake_is_pending = false;
-            self.discard_handshake(writing, at)?;
+            self.discard_handshake(writing, at, None)?;
         }
         Ok(())
     }
@@ -276,22 +291,25 @@ impl Keys {
         packet: &SentPacket<'_>,
         reported: Option<u64>,
     ) -> Result<bool, NoLine>
-        ensures told { OnOk result (told_in writing.new ≡ told_in writing.old) }
+        ensures told { OnOk result (Retires self.old.retired (told_in writing.old)
+            (told_in writing.new)) }
         ensures unit { OnOk result (writing.new.output.unit ≡ writing.old.output.unit) }
+        ensures known { OnOk result (known_by self.new ≡ known_by self.old) }
     {
         let mut is_late = false;
         let is_handshake = packet.packet.space == Space::Handshake;
         if is_handshake && self.is_client && !self.initial_is_gone {
             is_late = self.is_late(writing, packet, reported);
-            if !is_late && (self.initial_due.is_some() || self.initial_is_untold) {
-                self.discard_initial(writing, at)?;
+            let told = self.retired.initial;
+            if !is_late && (told.is_some() || self.initial_is_untold) {
+                self.discard_initial(writing, at, told)?;
             }
         }
         self.has_sent = self.has_sent || is_handshake;
         if packet.packet.content.has_handshake_done && self.handshake_is_untold {
             self.initial_is_pending = false;
             self.handshake_is_pending = false;
-            self.discard_handshake(writing, at)?;
+            self.discard_handshake(writing, at, None)?;
         }
         Ok(is_late)
     }
@@ -301,7 +319,7 @@ impl Keys {
         let Some(reported) = reported else {
             return false;
         };
-        if self.initial_due.is_some() || !self.initial_is_untold {
+        if self.retired.initial.is_some() || !self.initial_is_untold {
             return false;
         }
         let added = if packet.is_in_flight {
@@ -316,15 +334,18 @@ impl Keys {
     pub(crate) fn on_done(&mut self, writing: &mut Writing, at: At) -> Result<(), NoLine>
         ensures told { OnOk result (told_in writing.new ≡ told_in writing.old) }
         ensures unit { OnOk result (writing.new.output.unit ≡ writing.old.output.unit) }
+        ensures known { OnOk result (known_by self.new ≡ known_by self.old) }
     {
         if self.is_client && self.handshake_is_untold {
-            self.discard_handshake(writing, at)?;
+            self.discard_handshake(writing, at, None)?;
         }
         Ok(())
     }
 
     /// A packet that came may make discards due at a server.
-    pub(crate) fn after_received(&mut self, at: At, turns: Turns) {
+    pub(crate) fn after_received(&mut self, at: At, turns: Turns)
+        ensures { known_by self.new ≡ known_by self.old }
+    {
         if self.is_client {
             return;
         }

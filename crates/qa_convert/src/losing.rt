@@ -35,6 +35,8 @@ impl Conversion {
             ≡ (told_in self.old.writing).sent) }
         ensures timers { OnOk result ((told_in self.new.writing).timers
             ≡ (told_in self.old.writing).timers) }
+        ensures keys { OnOk result ((told_in self.new.writing).keys
+            ≡ (told_in self.old.writing).keys) }
         ensures acks { OnOk result ((told_in self.new.writing).acks
             ≡ (told_in self.old.writing).acks) }
         ensures lost { OnOk result (Names (in_flight self.old.writing.bare
@@ -55,6 +57,8 @@ impl Conversion {
             ≡ (told_in self.old.writing).sent) }
         ensures timers { OnOk result ((told_in self.new.writing).timers
             ≡ (told_in self.old.writing).timers) }
+        ensures keys { OnOk result ((told_in self.new.writing).keys
+            ≡ (told_in self.old.writing).keys) }
         ensures acks { OnOk result ((told_in self.new.writing).acks
             ≡ (told_in self.old.writing).acks) }
         ensures lost { OnOk result (Names (in_flight self.old.writing.bare
@@ -90,6 +94,8 @@ impl Conversion {
             ≡ (told_in self.old.writing).sent) }
         ensures timers { OnOk result ((told_in self.new.writing).timers
             ≡ (told_in self.old.writing).timers) }
+        ensures keys { OnOk result ((told_in self.new.writing).keys
+            ≡ (told_in self.old.writing).keys) }
         ensures acks { OnOk result ((told_in self.new.writing).acks
             ≡ (told_in self.old.writing).acks) }
         ensures lost { OnOk result (Names (in_flight self.old.writing.bare
@@ -120,6 +126,8 @@ impl Conversion {
             ≡ (told_in self.old.writing).sent) }
         ensures timers { OnOk result ((told_in self.new.writing).timers
             ≡ (told_in self.old.writing).timers) }
+        ensures keys { OnOk result ((told_in self.new.writing).keys
+            ≡ (told_in self.old.writing).keys) }
         ensures acks { OnOk result ((told_in self.new.writing).acks
             ≡ (told_in self.old.writing).acks) }
         ensures lost { OnOk result (Names (in_flight self.old.writing.bare
@@ -171,6 +179,8 @@ impl Conversion {
             ≡ (told_in self.old.writing).sent) }
         ensures timers { OnOk result (AddsTimers (expiry ∷ []) (told_in self.old.writing)
             (told_in self.new.writing)) }
+        ensures keys { OnOk result ((told_in self.new.writing).keys
+            ≡ (told_in self.old.writing).keys) }
         ensures acks { OnOk result ((told_in self.new.writing).acks
             ≡ (told_in self.old.writing).acks) }
         ensures lost { OnOk result (Names (in_flight self.old.writing.bare
@@ -192,6 +202,8 @@ impl Conversion {
     ) -> Result<(), NoLine>
         ensures timers { OnOk result (AddsTimers (expiry ∷ []) (told_in self.old.writing)
             (told_in self.new.writing)) }
+        ensures keys { OnOk result ((told_in self.new.writing).keys
+            ≡ (told_in self.old.writing).keys) }
         ensures sent { OnOk result ((told_in self.new.writing).sent
             ≡ (told_in self.old.writing).sent) }
         ensures acks { OnOk result ((told_in self.new.writing).acks
@@ -303,6 +315,8 @@ impl Conversion {
             ≡ (told_in self.old.writing).sent) }
         ensures timers { OnOk result ((told_in self.new.writing).timers
             ≡ (told_in self.old.writing).timers) }
+        ensures keys { OnOk result ((told_in self.new.writing).keys
+            ≡ (told_in self.old.writing).keys) }
         ensures acks { OnOk result ((told_in self.new.writing).acks
             ≡ (told_in self.old.writing).acks) }
         ensures lost { OnOk result (Names (in_flight self.old.writing.bare
@@ -323,6 +337,8 @@ impl Conversion {
             ≡ (told_in self.old.writing).sent) }
         ensures timers { OnOk result ((told_in self.new.writing).timers
             ≡ (told_in self.old.writing).timers) }
+        ensures keys { OnOk result ((told_in self.new.writing).keys
+            ≡ (told_in self.old.writing).keys) }
         ensures acks { OnOk result ((told_in self.new.writing).acks
             ≡ (told_in self.old.writing).acks) }
         ensures lost { OnOk result (Names (in_flight self.old.writing.bare
@@ -383,6 +399,8 @@ impl Conversion {
             ≡ (told_in self.old.writing).sent) }
         ensures timers { OnOk result ((told_in self.new.writing).timers
             ≡ (told_in self.old.writing).timers) }
+        ensures keys { OnOk result ((told_in self.new.writing).keys
+            ≡ (told_in self.old.writing).keys) }
         ensures acks { OnOk result ((told_in self.new.writing).acks
             ≡ (told_in self.old.writing).acks) }
         ensures lost { OnOk result (Names (in_space space (packets_of losses.now))

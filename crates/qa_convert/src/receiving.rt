@@ -1,9 +1,12 @@
 //! Packets that come, and what their ACK frames say.
 ghost use Rattle.std.specs.Prelude.{◌≡◌, ◌<◌, ◌≤◌, ◌++◌, ◌∷◌, [], IfOk, OnOk, length, true};
+ghost use Rattle.qa_base.specs.declared.space.Space.TheVariants.{Handshake};
+ghost use Rattle.qa_base.specs.values.Events.{is_space};
 ghost use Rattle.qa_convert.specs.AckDelays.{AddsAcks, AddsAllOrNone, IsDelayOf, TellsAcks};
 ghost use Rattle.qa_convert.specs.AckDelays.{decoding_of, lines_of};
 ghost use Rattle.qa_convert.specs.Losing.{Leaves, NamesOnly, lost_in, packets_of};
-ghost use Rattle.qa_convert.specs.Rules.{rules_of};
+ghost use Rattle.qa_convert.specs.KeyLines.{OnlyKeys, TellsKeys, known_by, with_come};
+ghost use Rattle.qa_convert.specs.Rules.{rules_of, rules_with};
 ghost use Rattle.qa_convert.specs.Telling.{next_marks, told_in, will_say};
 ghost use Rattle.qa_convert.specs.declared.guess.Guess.{Guess as AGuess};
 
@@ -47,9 +50,13 @@ impl Conversion {
             ≡ (told_in self.old.writing).sent) }
         ensures timers { OnOk result ((told_in self.new.writing).timers
             ≡ (told_in self.old.writing).timers) }
+        ensures keys { OnOk result (TellsKeys
+            (with_come (is_space Handshake packet.now.packet.space) (known_by self.old.keys))
+            (told_in self.old.writing) (told_in self.new.writing)) }
         ensures lost { OnOk result (NamesOnly (packets_of before.items ++ lost_in beside.now)
             (told_in self.old.writing) (told_in self.new.writing)) }
-        ensures rules { OnOk result (rules_of self.new ≡ rules_of self.old) }
+        ensures rules { OnOk result (rules_of self.new
+            ≡ rules_with packet.now.packet.space (rules_of self.old)) }
     {
         let decoding = self.decoding();
         self.has_come = true;
@@ -86,8 +93,10 @@ impl Conversion {
 
     /// A packet of the Handshake space shows that its keys are there.
     fn take_keys(&mut self, packet: &PacketAt) -> Result<(), NoLine>
-        ensures told { OnOk result (told_in self.new.writing ≡ told_in self.old.writing) }
-        ensures rules { OnOk result (rules_of self.new ≡ rules_of self.old) }
+        ensures keys { OnOk result (OnlyKeys (known_by self.new.keys)
+            (told_in self.old.writing) (told_in self.new.writing)) }
+        ensures rules { OnOk result (rules_of self.new
+            ≡ rules_with packet.now.packet.space (rules_of self.old)) }
     {
         if packet.packet.space == Space::Handshake {
             self.keys.take_keys(&mut self.writing, packet.at)?;
@@ -109,6 +118,8 @@ impl Conversion {
             ≡ (told_in self.old.writing).sent) }
         ensures timers { OnOk result ((told_in self.new.writing).timers
             ≡ (told_in self.old.writing).timers) }
+        ensures keys { OnOk result ((told_in self.new.writing).keys
+            ≡ (told_in self.old.writing).keys) }
         ensures lost { OnOk result (NamesOnly (lost_in later.now) (told_in self.old.writing)
             (told_in self.new.writing)) }
         ensures rules { OnOk result (rules_of self.new ≡ rules_of self.old) }
@@ -139,6 +150,8 @@ impl Conversion {
             ≡ (told_in self.old.writing).sent) }
         ensures timers { OnOk result ((told_in self.new.writing).timers
             ≡ (told_in self.old.writing).timers) }
+        ensures keys { OnOk result ((told_in self.new.writing).keys
+            ≡ (told_in self.old.writing).keys) }
         ensures acks { OnOk result ((told_in self.new.writing).acks
             ≡ (told_in self.old.writing).acks) }
         ensures lost { IfOk result (λ left. Leaves (packets_of before.items)
@@ -169,6 +182,8 @@ impl Conversion {
             ≡ (told_in self.old.writing).sent) }
         ensures timers { OnOk result ((told_in self.new.writing).timers
             ≡ (told_in self.old.writing).timers) }
+        ensures keys { OnOk result ((told_in self.new.writing).keys
+            ≡ (told_in self.old.writing).keys) }
         ensures lost { OnOk result (NamesOnly (packets_of lost.items) (told_in self.old.writing)
             (told_in self.new.writing)) }
         ensures rules { OnOk result (rules_of self.new ≡ rules_of self.old) }
@@ -199,6 +214,8 @@ impl Conversion {
             ≡ (told_in self.old.writing).sent) }
         ensures timers { OnOk result ((told_in self.new.writing).timers
             ≡ (told_in self.old.writing).timers) }
+        ensures keys { OnOk result ((told_in self.new.writing).keys
+            ≡ (told_in self.old.writing).keys) }
         ensures lost { OnOk result (NamesOnly (packets_of lost.now) (told_in self.old.writing)
             (told_in self.new.writing)) }
         ensures rules { OnOk result (rules_of self.new ≡ rules_of self.old) }
@@ -348,6 +365,8 @@ impl Conversion {
             ≡ (told_in self.old.writing).sent) }
         ensures timers { OnOk result ((told_in self.new.writing).timers
             ≡ (told_in self.old.writing).timers) }
+        ensures keys { OnOk result ((told_in self.new.writing).keys
+            ≡ (told_in self.old.writing).keys) }
         ensures lost { OnOk result (NamesOnly (packets_of lost.now) (told_in self.old.writing)
             (told_in self.new.writing)) }
         ensures rules { OnOk result (rules_of self.new ≡ rules_of self.old) }
@@ -390,6 +409,8 @@ impl Conversion {
             ≡ (told_in self.old.writing).sent) }
         ensures timers { OnOk result ((told_in self.new.writing).timers
             ≡ (told_in self.old.writing).timers) }
+        ensures keys { OnOk result ((told_in self.new.writing).keys
+            ≡ (told_in self.old.writing).keys) }
         ensures lost { OnOk result ((told_in self.new.writing).lost
             ≡ (told_in self.old.writing).lost) }
         ensures rules { OnOk result (rules_of self.new ≡ rules_of self.old) }

@@ -106,8 +106,8 @@ impl Conversion {
         beside: &[LoggedEvent],
     ) -> Result<(), NoLine>
         ensures sends { OnOk result (Sends self.old.known.settles_sizes
-            self.old.terms.dialect.sizes_by_growth packets.items (told_in self.old.writing)
-            (told_in self.new.writing)) }
+            self.old.terms.dialect.sizes_by_growth self.old.keys.retired packets.items
+            (told_in self.old.writing) (told_in self.new.writing)) }
         ensures rules { OnOk result (rules_of self.new ≡ rules_of self.old) }
     {
         let settles = self.known.settles_sizes;
@@ -145,8 +145,8 @@ impl Conversion {
         is_reported: bool,
         beside: &[LoggedEvent],
     ) -> Result<(), NoLine>
-        ensures wrote { OnOk result (Wrote packets.now (told_in self.old.writing)
-            (told_in self.new.writing)) }
+        ensures wrote { OnOk result (Wrote self.old.keys.retired packets.now
+            (told_in self.old.writing) (told_in self.new.writing)) }
         ensures rules { OnOk result (rules_of self.new ≡ rules_of self.old) }
     {
         let mut is_late = false;
@@ -161,15 +161,15 @@ impl Conversion {
             self.report(latest_of(last.at.time, beside))?;
         }
         if is_late {
-            self.keys.discard_initial(&mut self.writing, last.at)?;
+            self.keys.discard_initial(&mut self.writing, last.at, None)?;
         }
         Ok(())
     }
 
     /// Writes the line of a packet; whether the discard of the Initial keys is due behind it.
     fn send(&mut self, packet: &Outgoing, reported: Option<u64>) -> Result<bool, NoLine>
-        ensures wrote { OnOk result (Wrote (packet.now ∷ []) (told_in self.old.writing)
-            (told_in self.new.writing)) }
+        ensures wrote { OnOk result (Wrote self.old.keys.retired (packet.now ∷ [])
+            (told_in self.old.writing) (told_in self.new.writing)) }
         ensures rules { OnOk result (rules_of self.new ≡ rules_of self.old) }
     {
         let seen = packet.seen();
@@ -183,8 +183,8 @@ impl Conversion {
 
     /// Writes the line of a packet.
     fn write_sent(&mut self, packet: &Outgoing) -> Result<(), NoLine>
-        ensures wrote { OnOk result (Wrote (packet.now ∷ []) (told_in self.old.writing)
-            (told_in self.new.writing)) }
+        ensures wrote { OnOk result (Wrote self.old.keys.retired (packet.now ∷ [])
+            (told_in self.old.writing) (told_in self.new.writing)) }
         ensures rules { OnOk result (rules_of self.new ≡ rules_of self.old) }
     {
         if packet.is_size_guessed {

@@ -1,11 +1,14 @@
 //! Lines as they are written: their times, what was guessed, and what is in flight behind them.
-ghost use Rattle.std.specs.Prelude.{◌≡◌, ◌≤◌, ◌&&◌, ◌||◌, ℕ, IfOk, OnOk, Some, nat_eq, true};
+ghost use Rattle.std.specs.Prelude.{◌≡◌, ◌≤◌, ◌&&◌, ◌||◌, ◌∷◌, [], ℕ, IfOk, OnOk};
+ghost use Rattle.std.specs.Prelude.{Some, nat_eq, not, true};
 ghost use Rattle.qa_base.specs.declared.space.Space.{Space as ASpace};
+ghost use Rattle.qa_base.specs.declared.space.Space.TheVariants as a_space;
 ghost use Rattle.qa_base.specs.values.Events.{is_named, is_space};
 ghost use Rattle.qa_base.specs.values.Limits.{max_packet_number};
 ghost use Rattle.qa_convert.specs.Losing.{ArePacketNumbers, IsSpan, has_number, is_bare, is_in};
 ghost use Rattle.qa_convert.specs.Losing.{pushed};
-ghost use Rattle.qa_convert.specs.Telling.{nothing, told_in, will_say};
+ghost use Rattle.qa_convert.specs.KeyLines.{Discards};
+ghost use Rattle.qa_convert.specs.Telling.{nothing, told_in, will_say, with_came};
 ghost use Rattle.qa_convert.specs.declared.guess.Guess.{Guess as AGuess};
 
 use crate::bare::Bare;
@@ -237,7 +240,8 @@ impl Writing {
 
     /// The line of the Handshake keys.
     pub(crate) fn keys(&mut self, at: At) -> Result<(), NoLine>
-        ensures told { OnOk result (told_in self.new ≡ told_in self.old) }
+        ensures told { OnOk result (told_in self.new
+            ≡ with_came (told_in self.old) (a_space.Handshake ∷ [])) }
         ensures unit { OnOk result (self.new.output.unit ≡ self.old.output.unit) }
     {
         let time = self.next_time(at.time)?;
@@ -245,14 +249,42 @@ impl Writing {
         Ok(())
     }
 
-    /// The line of the confirmed handshake.
-    pub(crate) fn confirmed(&mut self, at: At) -> Result<(), NoLine>
-        ensures told { OnOk result (told_in self.new ≡ told_in self.old) }
+    /// The line of the confirmed handshake: the log tells there that the Handshake keys are gone,
+    /// or this is a guess.
+    pub(crate) fn confirmed(&mut self, at: At, told: Option<Place>) -> Result<(), NoLine>
+        ensures told { OnOk result (Discards told a_space.Handshake (told_in self.old)
+            (told_in self.new)) }
         ensures unit { OnOk result (self.new.output.unit ≡ self.old.output.unit) }
     {
+        if told.is_none() {
+            self.guess(Guess::Confirmed)?;
+        }
         let time = self.next_time(at.time)?;
         self.output
             .write(Event::Confirmed { time }, at.place, at.place)?;
+        Ok(())
+    }
+
+    /// The line of the keys of a space that are gone, with what was in flight in it: the log tells
+    /// it there, or this is a guess. Asks for a space of the handshake.
+    pub(crate) fn discard(
+        &mut self,
+        at: At,
+        space: Space,
+        told: Option<Place>,
+    ) -> Result<(), NoLine>
+        requires { not (is_space a_space.App space) ≡ true }
+        ensures told { OnOk result (Discards told space (told_in self.old) (told_in self.new)) }
+        ensures unit { OnOk result (self.new.output.unit ≡ self.old.output.unit) }
+    {
+        self.flights.of_mut(space).clear();
+        if told.is_none() {
+            self.guess(Guess::Discard)?;
+        }
+        let time = self.next_time(at.time)?;
+        let place = told.unwrap_or(at.place);
+        self.output
+            .write(Event::Discard { time, space }, place, place)?;
         Ok(())
     }
 }

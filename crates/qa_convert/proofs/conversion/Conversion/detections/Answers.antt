@@ -14,6 +14,7 @@ loop-place-preserved c =
             begun = end;
             sent = w.in_ok-detected.ensures.sent ∙ was.sent;
             timers = w.in_ok-detected.ensures.timers ∙ was.timers;
+            keys = w.in_ok-detected.ensures.keys ∙ was.keys;
             acks = w.in_ok-detected.ensures.acks ∙ was.acks;
             rules = w.in_ok-detected.ensures.rules ∙ was.rules;
             bare = w.in_ok-detected.ensures.bare ∙ was.bare;

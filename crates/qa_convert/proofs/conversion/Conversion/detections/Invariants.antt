@@ -9,6 +9,7 @@ invariant-loop-place l = record {
   begun : l.begun ≤ length l.events;
   sent : (told_in l.self.writing).sent ≡ (told_in l.initial.self.writing).sent;
   timers : (told_in l.self.writing).timers ≡ (told_in l.initial.self.writing).timers;
+  keys : (told_in l.self.writing).keys ≡ (told_in l.initial.self.writing).keys;
   acks : (told_in l.self.writing).acks ≡ (told_in l.initial.self.writing).acks;
   rules : rules_of l.self ≡ rules_of l.initial.self;
   bare : l.self.writing.bare ≡ l.initial.self.writing.bare;

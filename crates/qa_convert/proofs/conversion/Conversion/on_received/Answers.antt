@@ -2,9 +2,14 @@ use Rattle.std.proofs.Common.{◌≡◌, ◌∙◌, ◌++◌, ap, ap₂, subst}
 use Rattle.std.proofs.lemmas.List.{take-append-drop}
 use Rattle.std.proofs.lemmas.Result.{on_ok_weaker}
 use Rattle.qa_convert.proofs.Delayed.{only_added}
+use Rattle.qa_convert.proofs.Keyed.{only_tell, tell_between}
 use Rattle.qa_convert.proofs.Losses.{received_only}
+use Rattle.qa_base.specs.declared.space.Space.TheVariants.{Handshake}
+use Rattle.qa_base.specs.values.Events.{is_space}
 use Rattle.qa_convert.specs.AckDelays.{TellsAcks, decoding_of}
-use Rattle.qa_convert.specs.Telling.{Told, told_in}
+use Rattle.qa_convert.specs.KeyLines.{OnlyKeys, known_by, with_come}
+use Rattle.qa_convert.specs.Rules.{Rules, rules_with}
+use Rattle.qa_convert.specs.Telling.{KnownKeys, Told, told_in}
 use Rattle.qa_convert.specs.declared.decoding.Decoding.{Decoding}
 use Rattle.qa_convert.proofs.conversion.Conversion.on_received.Goals as goal
 
@@ -12,7 +17,7 @@ pub returns-clause-delays : goal.returns-clause-delays
 returns-clause-delays c =
     let d = decoding_of c.args.self.now in
     let begun : (told_in c.take_beside-is_reported.new.self.writing).acks ≡ (told_in c.args.self.now.writing).acks =
-    ap (λ w. (told_in w).acks) c.take_beside-is_reported.ensures.writing ∙ ap (λ (t : Told). t.acks) c.in_ok-take_keys.ensures.told ∙ c.in_ok-lost.ensures.acks in
+    ap (λ w. (told_in w).acks) c.take_beside-is_reported.ensures.writing ∙ ap (λ (t : Told). t.acks) c.in_ok-take_keys.ensures.keys.told ∙ c.in_ok-lost.ensures.acks in
     on_ok_weaker c.after_acks.result
     (λ same.
     only_added d c.write_acks.new.self.keys c.args.packet.now.packet (told_in c.args.self.now.writing) (told_in c.take_beside-is_reported.new.self.writing)
@@ -28,7 +33,7 @@ returns-clause-lost c =
     let later = c.split_at.result.1.now in
     let are : shown ++ later ≡ c.args.beside.now = ap₂ (λ xs ys. xs ++ ys) c.split_at.ensures.front c.split_at.ensures.back ∙ take-append-drop c.shown_part.result c.args.beside.now in
     let same : (told_in c.take_beside-is_reported.new.self.writing).lost ≡ (told_in c.lost_before.new.self.writing).lost =
-    ap (λ w. (told_in w).lost) c.take_beside-is_reported.ensures.writing ∙ ap (λ (t : Told). t.lost) c.in_ok-take_keys.ensures.told in
+    ap (λ w. (told_in w).lost) c.take_beside-is_reported.ensures.writing ∙ ap (λ (t : Told). t.lost) c.in_ok-take_keys.ensures.keys.told in
     on_ok_weaker c.after_acks.result
     (λ third.
     received_only c.args.before.items c.in_ok-lost.lost.items c.in_ok-lost-2.lost.items shown later c.args.beside.now
@@ -36,3 +41,43 @@ returns-clause-lost c =
     (told_in c.write_acks.new.self.writing) (told_in c.after_acks.new.self.writing)
     are c.in_ok-lost-2.ensures.some c.in_ok-lost-2.ensures.none c.in_ok-lost.ensures.lost same c.in_ok-write_acks.ensures.lost third)
     c.after_acks.ensures.lost
+
+pub returns-clause-keys : goal.returns-clause-keys
+returns-clause-keys c =
+    let space = c.args.packet.now.packet.space in
+    let known = with_come (is_space Handshake space) (known_by c.args.self.now.keys) in
+    let b = told_in c.lost_before.new.self.writing in
+    let mid = told_in c.take_keys.new.self.writing in
+    let are : known_by c.take_keys.new.self.keys ≡ known =
+    ap (λ (r : Rules). r.keys) (c.in_ok-take_keys.ensures.rules ∙ ap (rules_with space) c.in_ok-lost.ensures.rules) in
+    let only : OnlyKeys known b mid = subst (λ (k : KnownKeys). OnlyKeys k b mid) are c.in_ok-take_keys.ensures.keys in
+    on_ok_weaker c.after_acks.result
+    (λ same.
+    tell_between known (told_in c.args.self.now.writing) b mid (told_in c.after_acks.new.self.writing) c.in_ok-lost.ensures.keys (only_tell known b mid only)
+    (same ∙ c.in_ok-write_acks.ensures.keys ∙ ap (λ w. (told_in w).keys) c.take_beside-is_reported.ensures.writing))
+    c.after_acks.ensures.keys
+
+pub returns-clause-sent : goal.returns-clause-sent
+returns-clause-sent c =
+    on_ok_weaker c.after_acks.result
+    (λ same.
+    same ∙ c.in_ok-write_acks.ensures.sent ∙ ap (λ w. (told_in w).sent) c.take_beside-is_reported.ensures.writing
+    ∙ ap (λ (t : Told). t.sent) c.in_ok-take_keys.ensures.keys.told ∙ c.in_ok-lost.ensures.sent)
+    c.after_acks.ensures.sent
+
+pub returns-clause-timers : goal.returns-clause-timers
+returns-clause-timers c =
+    on_ok_weaker c.after_acks.result
+    (λ same.
+    same ∙ c.in_ok-write_acks.ensures.timers ∙ ap (λ w. (told_in w).timers) c.take_beside-is_reported.ensures.writing
+    ∙ ap (λ (t : Told). t.timers) c.in_ok-take_keys.ensures.keys.told ∙ c.in_ok-lost.ensures.timers)
+    c.after_acks.ensures.timers
+
+pub returns-clause-rules : goal.returns-clause-rules
+returns-clause-rules c =
+    let space = c.args.packet.now.packet.space in
+    on_ok_weaker c.after_acks.result
+    (λ same.
+    same ∙ c.in_ok-write_acks.ensures.rules ∙ c.take_beside-is_reported.ensures.rules ∙ c.in_ok-take_keys.ensures.rules
+    ∙ ap (rules_with space) c.in_ok-lost.ensures.rules)
+    c.after_acks.ensures.rules

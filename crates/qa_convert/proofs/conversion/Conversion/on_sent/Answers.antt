@@ -1,8 +1,9 @@
 use Rattle.std.proofs.Common.{◌≡◌, ◌≤◌, ◌∙◌, [], ◌∷◌, List, length, refl, sym, ap, subst, arith}
 use Rattle.std.proofs.lemmas.Result.{on_ok_weaker}
 use Rattle.qa_convert.proofs.Sent.{lines_are, none_sent}
+use Rattle.qa_convert.specs.Rules.{Rules, rules_of}
 use Rattle.qa_convert.specs.Sending.{AreOf, Wrote}
-use Rattle.qa_convert.specs.Telling.{sized, told_in, with_sent}
+use Rattle.qa_convert.specs.Telling.{KnownKeys, sized, told_in, with_gone, with_sent}
 use Rattle.qa_convert.specs.declared.conversion.Conversion.{Conversion}
 use Rattle.qa_convert.specs.declared.sending.Outgoing.{Outgoing}
 use Rattle.qa_convert.proofs.conversion.Conversion.on_sent.Goals as goal
@@ -23,6 +24,8 @@ returns-in_default-clause-sends c =
     record {
       lines = [];
       are = lines_are s g (sized c.args.packets.items) [] [] (subst (λ (os : List Outgoing). AreOf s g (sized c.args.packets.items) os) none (c.in_ok-packets.ensures s g)) refl;
+      spaces = [];
+      gone = tt;
       told = none_sent (told_in c.args.self.now.writing);
     }
 
@@ -50,13 +53,27 @@ returns-clause-sends c =
       | then-awaits_discard+in_ok-settle w ↦ ap (λ (x : Conversion). told_in x.writing) w.self-is ∙ w.in_ok-settle.ensures.told ∙ settled
       | else-awaits_discard w ↦ ap (λ (x : Conversion). told_in x.writing) w.self-is ∙ settled
     ] in
+    let begun : rules_of c.take_beside-is_reported.new.self ≡ rules_of c.args.self.now = c.take_beside-is_reported.ensures.rules ∙ c.in_ok-guess_probes.ensures.rules in
+    let grown : rules_of c.if-is_some.self ≡ rules_of c.args.self.now =
+    elim c.if-is_some.branch [
+      | then-is_some+then-settles+in_ok-settle_sizes w ↦ ap rules_of w.self-is ∙ w.in_ok-settle_sizes.ensures.rules ∙ begun
+      | else-is_some w ↦ ap rules_of w.self-is ∙ begun
+    ] in
+    let same : c.if-awaits_discard.self.keys.retired ≡ c.args.self.now.keys.retired =
+    elim c.if-awaits_discard.branch [
+      | then-awaits_discard+in_ok-settle w ↦ ap (λ (x : Conversion). x.keys.retired) w.self-is ∙ ap (λ (k : KnownKeys). k.retired) w.in_ok-settle.ensures.known ∙ ap (λ (r : Rules). r.keys.retired) grown
+      | else-awaits_discard w ↦ ap (λ (x : Conversion). x.keys.retired) w.self-is ∙ ap (λ (r : Rules). r.keys.retired) grown
+    ] in
     on_ok_weaker c.send_all.result
     (λ wrote.
-    let all : Wrote c.if-is_some.packets.items (told_in c.if-awaits_discard.self.writing) (told_in c.send_all.new.self.writing) =
-    subst (λ (os : List Outgoing). Wrote os (told_in c.if-awaits_discard.self.writing) (told_in c.send_all.new.self.writing)) c.deref-3.ensures.value wrote in
+    let all : Wrote c.args.self.now.keys.retired c.if-is_some.packets.items (told_in c.if-awaits_discard.self.writing) (told_in c.send_all.new.self.writing) =
+    subst (λ (os : List Outgoing). Wrote c.args.self.now.keys.retired os (told_in c.if-awaits_discard.self.writing) (told_in c.send_all.new.self.writing)) c.deref-3.ensures.value
+    (rw same at wrote) in
     record {
       lines = all.lines;
       are = lines_are s g ps c.if-is_some.packets.items all.lines are all.are;
-      told = all.told ∙ ap (λ t. with_sent t all.lines) told;
+      spaces = all.spaces;
+      gone = all.gone;
+      told = all.told ∙ ap (λ t. with_gone (with_sent t all.lines) all.spaces) told;
     })
     c.send_all.ensures.wrote

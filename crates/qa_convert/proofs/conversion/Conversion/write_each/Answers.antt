@@ -13,6 +13,7 @@ loop-ack-init c = record {
   acks = none_added c.args.before.decoding c.args.packet.now.packet.space [] (told_in c.args.self.now.writing) (told_in c.args.self.now.writing) refl refl;
   sent = refl;
   timers = refl;
+  keys = refl;
   rules = refl;
   lost = only_none (packets_of c.args.lost.now) (packets_of c.args.lost.now) _ _ (λ s n. omega arith) refl;
 }
@@ -33,6 +34,7 @@ loop-ack-preserved c =
           c.loop-ack.invariant.acks c.in_ok-write_ack.ensures.acks);
       sent = c.in_ok-write_ack.ensures.sent ∙ c.loop-ack.invariant.sent;
       timers = c.in_ok-write_ack.ensures.timers ∙ c.loop-ack.invariant.timers;
+      keys = c.in_ok-write_ack.ensures.keys ∙ c.loop-ack.invariant.keys;
       rules = c.in_ok-write_ack.ensures.rules ∙ c.loop-ack.invariant.rules;
       lost = leaves_then (packets_of c.args.lost.now) (packets_of c.loop-ack.lost.now) [] _ _ _ c.loop-ack.invariant.lost c.in_ok-write_ack.ensures.lost;
     }

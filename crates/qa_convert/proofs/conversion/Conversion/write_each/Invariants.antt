@@ -10,6 +10,7 @@ invariant-loop-ack l = record {
   acks : AddsAcks l.before.decoding l.packet.packet.space (take l.ack-index l.packet.packet.acks.items) (told_in l.initial.self.writing) (told_in l.self.writing);
   sent : (told_in l.self.writing).sent ≡ (told_in l.initial.self.writing).sent;
   timers : (told_in l.self.writing).timers ≡ (told_in l.initial.self.writing).timers;
+  keys : (told_in l.self.writing).keys ≡ (told_in l.initial.self.writing).keys;
   rules : rules_of l.self ≡ rules_of l.initial.self;
   lost : Leaves (packets_of l.fn.lost) (packets_of l.lost) (told_in l.initial.self.writing) (told_in l.self.writing);
 }

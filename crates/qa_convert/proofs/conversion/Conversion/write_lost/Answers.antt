@@ -15,6 +15,7 @@ pub loop-it-init : goal.loop-it-init
 loop-it-init c = record {
   sent = refl;
   timers = refl;
+  keys = refl;
   acks = refl;
   rules = refl;
   bare = refl;
@@ -37,6 +38,7 @@ loop-it-preserved c =
           rw (w.self-is, written) (record {
             sent = w.in_ok-write_lost_of.ensures.sent ∙ was.sent;
             timers = w.in_ok-write_lost_of.ensures.timers ∙ was.timers;
+            keys = w.in_ok-write_lost_of.ensures.keys ∙ was.keys;
             acks = w.in_ok-write_lost_of.ensures.acks ∙ was.acks;
             rules = w.in_ok-write_lost_of.ensures.rules ∙ was.rules;
             bare = w.in_ok-write_lost_of.ensures.bare ∙ was.bare;
@@ -49,6 +51,7 @@ loop-it-preserved c =
           rw (w.self-is, w.written-is) (record {
             sent = was.sent;
             timers = was.timers;
+            keys = was.keys;
             acks = was.acks;
             rules = was.rules;
             bare = was.bare;

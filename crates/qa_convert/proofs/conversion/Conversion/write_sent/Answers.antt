@@ -48,7 +48,7 @@ returns-clause-wrote c =
     c.get-2.ensures.value c.is_in_flight-in_flight.ensures.value
     ∙ ap (λ leave. with_sent (told_in c.next_time.new.self) (line o.size (is_in_flight o.packet.content || o.is_padded) leave ∷ [])) left
     ∙ ap (λ t. with_sent t (line_of o says ∷ [])) timed in
-    wrote_one o says before (told_in c.keep_sent.new.self.writing) told
+    wrote_one c.args.self.now.keys.retired o says before (told_in c.keep_sent.new.self.writing) told
     (λ known.
     let first : will_say c.if-packet.self.writing guess.Size ≡ true =
     elim c.if-packet.branch [

@@ -7,5 +7,5 @@ pub returns-then-branch-clause-passes : goal.returns-then-branch-clause-passes
 returns-then-branch-clause-passes c =
     let w = c.args.self.now in
     let left = c.in_ok-leaves_out.ensures in
-    rw (left.order, left.groups, left.events, left.ready)
+    rw (left.order, left.groups, left.events, left.ready, left.rules)
     (passes_left_out (rules_of w.conversion) w.retry c.args.event _ w.groups w.ready.items _ _ (sym left.left ∙ c.if-branch.true) left.told)

@@ -15,7 +15,7 @@ loop-said-preserved c =
     let old = c.loop-said.self in
     let mid = c.pass.new.self in
     let passed = c.in_ok-pass.ensures in
-    let one = goes_one e (progress_of old) (told_of old) (progress_of mid) (told_of mid) passed.head passed.retry passed.rules passed.passes in
+    let one = goes_one e (progress_of old) (told_of old) (progress_of mid) (told_of mid) passed.head passed.retry passed.passes in
     record {
       next = tt;
       finite = tt;

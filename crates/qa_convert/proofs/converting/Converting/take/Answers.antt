@@ -26,7 +26,7 @@ returns-in-Some c j begins =
       all = given.0;
       are = says_some old.head j (chosen_only old.head j (numbering_of old.cursor.connections) (name_of reads.event)) c.in-Some.named.name given.0 finds.0 given.1;
       goes =
-          let goes : Goes (events_at c.in-Some.named.at given.0) (progress_of old) (told_of old) (progress_of new) (told_of new) = record { head = given.2.head; retry = given.2.retry; rules = given.2.rules; passes = given.2.passes } in
+          let goes : Goes (events_at c.in-Some.named.at given.0) (progress_of old) (told_of old) (progress_of new) (told_of new) = record { head = given.2.head; retry = given.2.retry; passes = given.2.passes } in
           subst (λ (at : At). Goes (events_at at given.0) (progress_of old) (told_of old) (progress_of new) (told_of new)) finds.1 goes;
     })
     (c.take_event.ensures.goes (data_of old.head.fields j) finds.2)

@@ -20,5 +20,5 @@ returns-clause-goes c d finds =
     cc in (
       s ∷ [],
       says_one old.head.unit event.name d s other says,
-      goes_one (event_at event.at s) (progress_of old) (told_of old) (progress_of c.pass.new.self) (told_of c.pass.new.self) passed.head passed.retry passed.rules passed.passes,
+      goes_one (event_at event.at s) (progress_of old) (told_of old) (progress_of c.pass.new.self) (told_of c.pass.new.self) passed.head passed.retry passed.passes,
     )
