@@ -36,25 +36,6 @@ told_alone false s = (refl, tt)
 
 -- ---- one space
 
-pub discards_by : (place : Option Place) (s : Space) (says : Bool) (a b : Told) → (place ≡ None → says ≡ true) → b ≡ with_gone a (gone_told says s) → Discards place s a b
-discards_by place s says a b guess told = record {
-  spaces = gone_told says s;
-  are = told_alone says s;
-  untold = λ none. rw (guess none) refl;
-  told = told;
-}
-
-pub discards_none : (place : Option Place) (s : Space) (a b : Told) → b ≡ a → Discards place s a b
-discards_none place s a b same = record { spaces = []; are = tt; untold = λ none. refl; told = same ∙ no_gone a }
-
-pub discards_then : (place : Option Place) (s : Space) (a b c : Told) → Discards place s a b → Discards place s b c → Discards place s a c
-discards_then place s a b c one two = record {
-  spaces = one.spaces ++ two.spaces;
-  are = all_and (λ t. t ≡ s) one.spaces two.spaces one.are two.are;
-  untold = λ none. rw (one.untold none, two.untold none) refl;
-  told = two.told ∙ ap (λ t. with_gone t two.spaces) one.told ∙ more_gone a one.spaces two.spaces;
-}
-
 -- a guess tells nothing
 pub nothing_gone : (place : Option Place) (s : Space) (a b : Told) → place ≡ None → Discards place s a b → b ≡ a
 nothing_gone place s a b none gone = gone.told ∙ rw (gone.untold none) (sym (no_gone a))
@@ -82,13 +63,6 @@ retires_none retired a b same = record { spaces = []; gone = tt; told = same ∙
 
 pub retires_same : (retired : Retired) (a b c : Told) → Retires retired a b → c ≡ b → Retires retired a c
 retires_same retired a b c one same = record { spaces = one.spaces; gone = one.gone; told = same ∙ one.told }
-
-pub retires_then : (retired : Retired) (a b c : Told) → Retires retired a b → Retires retired b c → Retires retired a c
-retires_then retired a b c one two = record {
-  spaces = one.spaces ++ two.spaces;
-  gone = all_and (λ s. is_some (of_space s retired) ≡ true) one.spaces two.spaces one.gone two.gone;
-  told = two.told ∙ ap (λ t. with_gone t two.spaces) one.told ∙ more_gone a one.spaces two.spaces;
-}
 
 -- ---- keys of which the log told
 

@@ -8,6 +8,7 @@ pub mod Goes
 pub mod GroupTold
 pub mod Grouped
 pub mod Guessed
+pub mod Headed
 pub mod Keyed
 pub mod Losses
 pub mod Marked
@@ -23,6 +24,7 @@ pub mod Power
 pub mod Read
 pub mod Sent
 pub mod Spliced
+pub mod Surveyed
 pub mod Texts
 pub mod Timed
 pub mod Traces

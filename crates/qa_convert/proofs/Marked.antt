@@ -143,7 +143,7 @@ is_alone guess.TimeBack = (refl, (refl, (refl, (refl, (refl, (refl, (refl, (refl
 alone : (h g : Guess) → bytes_eq (guess_text h) (guess_text g) ≡ is_guess h g
 alone h = one_of (λ g. bytes_eq (guess_text h) (guess_text g) ≡ is_guess h g) (is_alone h)
 
-texts_have : (h : Guess) → (gs : List Guess) → has_text (guess_text h) (texts_of gs) ≡ has_guess h gs
+pub texts_have : (h : Guess) → (gs : List Guess) → has_text (guess_text h) (texts_of gs) ≡ has_guess h gs
 texts_have h [] = refl
 texts_have h (g ∷ gs) = ap₂ (λ a b. a || b) (alone h g) (texts_have h gs)
 

@@ -2,7 +2,7 @@
 use Rattle.std.proofs.Common.{◌≡◌, ◌∙◌, ◌||◌, ℕ, zero, suc, Bool, true, false, Option, Some, List, [], ◌∷◌, ◌++◌, get_or, append-nil, append_assoc, refl, sym, ap, ap₂}
 use Rattle.std.proofs.lemmas.Bool.Decides.{Decides-eqb}
 use Rattle.std.specs.Option.{is_some}
-use Rattle.std.specs.Prelude.{◌&&◌, nat_eq, not}
+use Rattle.std.specs.Prelude.{nat_eq, not}
 use Rattle.std.proofs.Math.ListN.{set}
 use Rattle.qa_base.specs.declared.space.Permission.{Permission}
 use Rattle.qa_base.specs.declared.space.Permission.TheVariants.{Window, Probe, Recovery}
@@ -10,7 +10,6 @@ use Rattle.qa_base.specs.declared.space.Space.{Space}
 use Rattle.qa_base.specs.values.PerSpace.{of_space}
 use Rattle.qa_qlog.specs.Frames.{is_in_flight}
 use Rattle.qa_convert.proofs.Keyed.{all_and, no_gone}
-use Rattle.qa_convert.specs.KeyLines.{Retires}
 use Rattle.qa_convert.specs.Sending.{AreOf, AreWrittenOf, IsOf, IsWrittenOf, Wrote, line_of}
 use Rattle.qa_convert.specs.Telling.{AreLinesOf, IsLineOf, Retired, SentLine, Told, next_marks, says_leave, sized, will_say, with_gone, with_sent, with_size}
 use Rattle.qa_convert.specs.declared.groups.PacketAt.{PacketAt}
@@ -57,11 +56,6 @@ other_size : (m n : ℕ) (s : Option ℕ) → nat_eq m n ≡ false → Some m �
 other_size m n s differ first second =
     let same : m ≡ n = some_same m n (first ∙ sym second) in
     let alike : nat_eq m n ≡ true = (Decides-eqb m n).1 same in cc
-
-pub was_guessed : (g b : Bool) → (not g && not b) ≡ false → g ≡ false → b ≡ true
-was_guessed true b e none = cc
-was_guessed false true e none = refl
-was_guessed false false e none = cc
 
 -- a packet whose size the growth has shown: if others are not taken by it, it was a guess
 pub grown_is : (g : Bool) (p : LoggedPacket) (old new : Outgoing) → IsOf true g p old → (g ≡ false → old.is_size_guessed ≡ true) → new.packet ≡ old.packet
@@ -123,16 +117,6 @@ wrote_one retired o says a b is guess = record {
 }
 
 -- what the log told of keys that are gone, and then lines of packets
-pub wrote_behind : (retired : Retired) (os : List Outgoing) (a b c : Told) → Retires retired a b → Wrote retired os b c → Wrote retired os a c
-wrote_behind retired os a b c one two = record {
-  lines = two.lines;
-  are = two.are;
-  spaces = one.spaces ++ two.spaces;
-  gone = all_and (λ s. is_some (of_space s retired) ≡ true) one.spaces two.spaces one.gone two.gone;
-  told = two.told ∙ ap (λ t. sent_and_gone t two.lines two.spaces) one.told
-      ∙ ap (λ (all : List Space). record (with_sent a two.lines) { keys = record { came = a.keys.came; gone = all } }) (append_assoc a.keys.gone one.spaces two.spaces);
-}
-
 -- ---- groups
 
 pub lines_then : (s g : Bool) (ps qs : List LoggedPacket) (ls ms : List SentLine) → AreLinesOf s g ps ls → AreLinesOf s g qs ms → AreLinesOf s g (ps ++ qs) (ls ++ ms)

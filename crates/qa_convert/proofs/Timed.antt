@@ -89,10 +89,6 @@ adds_by false e kind space m a b says is_kind is_space told =
     let line : TimerLine = record { kind = kind; space = space } in
     (line ∷ [], ap (λ (t : Told). t.timers) told ∙ rw says refl, inr (line, [], refl, record { kind = is_kind; space = is_space }, refl))
 
-pub one_expired : (e : Expiry) (kind : TimerKind) (a b : Told) → IfSome e.kind (λ k. kind ≡ k) → (w : WritesTimer false kind a b)
-    → IfSome e.space (λ s. w.space ≡ s) → AddsTimers (e ∷ []) a b
-one_expired e kind a b is_kind w is_space = adds_by w.marks.timer e kind w.space w.marks a b refl is_kind is_space w.told
-
 pub then_same : (e : Expiry) (a b c : Told) → AddsTimers (e ∷ []) a b → c.timers ≡ b.timers → AddsTimers (e ∷ []) a c
 then_same e a b c adds same = (adds.0, same ∙ adds.1, adds.2)
 

@@ -97,6 +97,13 @@ is_of_line guess.LeaveProbe = false
 is_of_line guess.LeaveRecovery = false
 is_of_line guess.TimeBack = false
 
+-- the size of a header's datagrams
+abbrev pub is_of_datagram : Guess → Bool
+is_of_datagram guess.DatagramByWindow = true
+is_of_datagram guess.DatagramByPacket = true
+is_of_datagram guess.DatagramLeast = true
+is_of_datagram _ = false
+
 -- a timer expired
 abbrev pub is_of_timer : Guess → Bool
 is_of_timer guess.ProbeByCount = true

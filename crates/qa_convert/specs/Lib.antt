@@ -7,6 +7,7 @@ pub mod Gathering
 pub mod GroupLines
 pub mod Groups
 pub mod Guesses
+pub mod Headers
 pub mod KeyLines
 pub mod Losing
 pub mod Marks
@@ -21,6 +22,8 @@ pub mod Rounding
 pub mod Rules
 pub mod Said
 pub mod Sending
+pub mod Sources
+pub mod Surveying
 pub mod Taking
 pub mod Telling
 pub mod Timers

@@ -4,8 +4,6 @@ use Rattle.std.specs.Prelude.{◌≤◌, drop, length, map, take}
 use Rattle.std.specs.List.{AllByRecursion}
 use Rattle.serde_json.specs.Data.{Data, Members, no_members, member, object, string}
 use Rattle.serde_json.specs.Written.{compact_text}
-use Rattle.qa_base.specs.declared.space.TimeUnit.{TimeUnit}
-use Rattle.qa_base.specs.values.Settings.{Settings}
 use Rattle.qa_convert.specs.declared.own.OwnKey.{OwnKey}
 use Rattle.qa_convert.specs.declared.own.OwnKey.TheVariants.{Dialect, Forgot, Guess, Note, Place}
 use Rattle.qa_convert.specs.declared.own.OwnKey.TheVariants.{Space}
@@ -110,9 +108,3 @@ AreEventLines bytes =
 abbrev pub IsHeaderLine : List ℕ → Type 0
 IsHeaderLine bytes =
     (n : Noted) × IsOfHeader n.0 × IsWritten n × (bytes ≡ with_lf (noted n.0 n.1))
-
--- bytes are the line of a header that says this unit of time
-abbrev pub SaysUnit : TimeUnit → List ℕ → Type 0
-SaysUnit unit bytes =
-    (s : Settings) × (own : Members) × (s.unit ≡ unit)
-    × (bytes ≡ with_lf (noted (line.Header s) own))

@@ -13,6 +13,7 @@ use Rattle.qa_convert.specs.Reading.{SaysOf, at_of, chosen_only, clock_after, cl
 use Rattle.qa_convert.specs.Reading.{connections_after, event_at, events_at, name_of, next_index}
 use Rattle.qa_convert.specs.KeyLines.{no_keys}
 use Rattle.qa_convert.specs.Rules.{Rules, rules_of}
+use Rattle.qa_convert.specs.Sources.{Sources, exponent_of}
 use Rattle.qa_convert.specs.Telling.{Told, told_in}
 use Rattle.qa_convert.specs.declared.clock.Clock.{Clock}
 use Rattle.qa_convert.specs.declared.converting.Converting.{Converting}
@@ -53,8 +54,9 @@ progress_of c = record {
 }
 
 -- no record is read, the connection of this number is converted, delays, sizes, reports and limits
--- are read as this dialect says, and nothing is told of keys
-pub record Begins (h : Head) (chosen : ℕ) (d : Dialect) (p : Progress) : Type 0 where
+-- are read as this dialect and what the log says of the peer say, and nothing is told of keys
+pub record Begins (h : Head) (chosen : ℕ) (d : Dialect) (said : Sources) (p : Progress)
+    : Type 0 where
   pub head : p.head ≡ h
   pub clock : p.clock ≡ clock_before h
   pub connections : p.connections ≡ none_named chosen
@@ -64,6 +66,7 @@ pub record Begins (h : Head) (chosen : ℕ) (d : Dialect) (p : Progress) : Type 
   pub ready : p.ready ≡ []
   pub subtracts : p.rules.decoding.subtracts ≡ d.subtracts_delay
   pub is_encoded : p.rules.decoding.is_encoded ≡ d.delay_is_encoded
+  pub exponent : p.rules.decoding.exponent ≡ exponent_of said
   pub limited : p.rules.decoding.limited ≡ d.limited
   pub by_growth : p.rules.by_growth ≡ d.sizes_by_growth
   pub keys : p.rules.keys ≡ no_keys

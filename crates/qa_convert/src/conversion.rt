@@ -4,6 +4,7 @@ ghost use Rattle.qa_convert.specs.AckDelays.{Answers, decoding_of, is_by_state};
 ghost use Rattle.qa_convert.specs.Losing.{Declares};
 ghost use Rattle.qa_convert.specs.KeyLines.{OnlyKeys, TellsKeys, keys_by, keys_in, known_by, no_keys};
 ghost use Rattle.qa_convert.specs.Rules.{rules_behind, rules_by, rules_of};
+ghost use Rattle.qa_convert.specs.Sources.{exponent_of, sources_in};
 ghost use Rattle.qa_convert.specs.Timers.{Expires};
 ghost use Rattle.qa_convert.specs.Telling.{Writes, next_marks, says_limited, told_in};
 
@@ -58,7 +59,9 @@ pub(crate) struct Known {
 
 impl Known {
     /// That of a log.
-    pub(crate) fn of(dialect: &Dialect, survey: &Survey) -> Known {
+    pub(crate) fn of(dialect: &Dialect, survey: &Survey) -> Known
+        ensures { result.delay_exponent ≡ exponent_of (sources_in survey.now) }
+    {
         Known {
             logs_timers: dialect.logs_timers.unwrap_or(survey.has_timers),
             settles_sizes: dialect.sizes_by_growth || survey.has_found_sizes,
@@ -125,6 +128,7 @@ impl Conversion {
         ensures terms { result.terms ≡ terms }
         ensures writing { result.writing ≡ writing }
         ensures keys { known_by result.keys ≡ no_keys }
+        ensures exponent { result.known.delay_exponent ≡ exponent_of (sources_in survey.now) }
     {
         let none = PerSpace {
             initial: None,

@@ -10,6 +10,7 @@ ghost use Rattle.qa_convert.specs.Passing as passing;
 ghost use Rattle.qa_convert.specs.Passing.{Closes, Passes, counted, waiting};
 ghost use Rattle.qa_convert.specs.Reading.{GivesSize, SaysAll, SaysLosses, SaysSized, events_at};
 ghost use Rattle.qa_convert.specs.Rules.{rules_after, rules_of};
+ghost use Rattle.qa_convert.specs.Sources.{sources_in};
 ghost use Rattle.qa_convert.specs.Taking.{Begins, Goes, Takes, TakesUnread, progress_of, told_of};
 ghost use Rattle.qa_convert.specs.Telling.{told_in};
 ghost use Rattle.qa_convert.specs.declared.event.Said.{Said as Kept};
@@ -83,7 +84,9 @@ impl Converting {
         survey: Survey,
         writing: Writing,
     ) -> Converting
-        ensures begins { Begins head chosen terms.dialect (progress_of result) }
+        ensures begins { Begins head chosen terms.dialect (sources_in survey)
+            (progress_of result) }
+        ensures retry { result.retry ≡ survey.retry }
         ensures told { told_of result ≡ told_in writing }
         ensures unit { result.conversion.writing.output.unit ≡ writing.output.unit }
     {

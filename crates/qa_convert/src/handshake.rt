@@ -116,8 +116,8 @@ impl Keys {
         Ok(())
     }
 
-    /// The handshake is confirmed: the log tells there that the Handshake keys are gone, or this is
-    /// a guess.
+    /// The handshake is confirmed. If the log told that the Handshake keys are gone, `told` is
+    /// where it did; otherwise the line says that it is a guess.
     fn confirm(&mut self, writing: &mut Writing, at: At, told: Option<Place>) -> Result<(), NoLine>
         ensures told { OnOk result (Discards told a_space.Handshake (told_in writing.old)
             (told_in writing.new)) }
@@ -131,7 +131,8 @@ impl Keys {
         writing.confirmed(at, told)
     }
 
-    /// The Initial keys are gone: the log tells it there, or this is a guess.
+    /// The Initial keys are gone. If the log told it, `told` is where it did; otherwise the line
+    /// says that it is a guess.
     pub(crate) fn discard_initial(
         &mut self,
         writing: &mut Writing,
@@ -150,8 +151,8 @@ impl Keys {
         writing.discard(at, Space::Initial, told)
     }
 
-    /// The Handshake keys are gone, and the handshake is confirmed: the log tells it there, or this
-    /// is a guess.
+    /// The Handshake keys are gone, and the handshake is confirmed. If the log told it, `told` is
+    /// where it did; otherwise the lines say that it is a guess.
     fn discard_handshake(
         &mut self,
         writing: &mut Writing,

@@ -1,13 +1,24 @@
 //! The header of a trace: what the log says of its sender, what is known of its stack, and what the
 //! user of the converter says.
-ghost use Rattle.std.specs.Prelude.{◌≡◌, IfOk, OnOk};
-ghost use Rattle.qa_convert.specs.Telling.{told_in};
+ghost use Rattle.std.specs.Prelude.{◌≡◌, ◌&&◌, IfOk, OnOk, Option, ℕ, false, true, unwrap_or};
+ghost use Rattle.qa_base.specs.values.Constants.{default_max_ack_delay, minimum_window};
+ghost use Rattle.qa_base.specs.values.Limits.{in_range, max_initial_window};
+ghost use Rattle.qa_base.specs.values.Settings as settings;
+ghost use Rattle.qa_base.specs.values.Settings.{default_window, is_reported};
+ghost use Rattle.qa_convert.specs.Headers.{HeaderSays, IsDelay, IsInitialRtt, IsSize, IsWindow};
+ghost use Rattle.qa_convert.specs.Headers.{Keeps, rtt_in as an_rtt_in, rtt_or_default};
+ghost use Rattle.qa_convert.specs.Headers.{size_said, window_said};
+ghost use Rattle.qa_convert.specs.Sources.{not_zero as a_not_zero, rtt_said, sources_in};
+ghost use Rattle.qa_convert.specs.Telling.{told_in, will_say};
+ghost use Rattle.qa_convert.specs.declared.guess.Guess.{Guess as AGuess};
+ghost use Rattle.qa_convert.specs.declared.header.Format.TheVariants as formats;
 
 use crate::dialects::Dialect;
 use crate::guess::Guess;
 use crate::omission::Omission;
+use crate::output::in_unit_of;
 use crate::size::PacketSize;
-use crate::survey::Survey;
+use crate::survey::{Survey, not_zero};
 use crate::validation::LEAST_DATAGRAM;
 use crate::writing::Writing;
 use qa_base::{
@@ -168,6 +179,10 @@ impl Choices {
         survey: &Survey,
         writing: &mut Writing,
     ) -> Result<Options, NoHeader>
+        ensures first { IfOk result (λ options. self.now.format ≡ formats.One
+            → is_reported options.controller ≡ false) }
+        ensures says_more { OnOk result ((g : AGuess) → will_say writing.old g ≡ true
+            → will_say writing.new g ≡ true) }
         ensures told { OnOk result (told_in writing.new ≡ told_in writing.old) }
         ensures unit { OnOk result (writing.new.output.unit ≡ writing.old.output.unit) }
     {
@@ -242,9 +257,13 @@ impl Choices {
         survey: &Survey,
         writing: &mut Writing,
     ) -> Result<Header, NoHeader>
+        ensures says_more { OnOk result ((g : AGuess) → will_say writing.old g ≡ true
+            → will_say writing.new g ≡ true) }
         ensures told { OnOk result (told_in writing.new ≡ told_in writing.old) }
         ensures unit { OnOk result (writing.new.output.unit ≡ writing.old.output.unit) }
         ensures header { IfOk result (λ header. header.unit ≡ writing.old.output.unit) }
+        ensures says { IfOk result (HeaderSays role self.now.format dialect.now
+            (sources_in survey.now) survey.now.retry (will_say writing.new)) }
     {
         let unit = writing.output.unit;
         let options = self.options(dialect, survey, writing)?;
@@ -269,7 +288,8 @@ impl Choices {
         values: ConnectionValues,
         options: Options,
     ) -> Result<Header, RangeFault>
-        ensures { IfOk result (λ header. header.unit ≡ unit) }
+        ensures { (self.now.format ≡ formats.One → is_reported options.controller ≡ false)
+            → IfOk result (Keeps unit values options.controller) }
     {
         let header = Header::in_unit(unit, values)?;
         match self.format {
@@ -321,6 +341,8 @@ fn limit_of(
     survey: &Survey,
     writing: &mut Writing,
 ) -> Result<Option<u64>, AllocError>
+    ensures says_more { OnOk result ((g : AGuess) → will_say writing.old g ≡ true
+        → will_say writing.new g ≡ true) }
     ensures told { OnOk result (told_in writing.new ≡ told_in writing.old) }
     ensures unit { OnOk result (writing.new.output.unit ≡ writing.old.output.unit) }
 {
@@ -359,11 +381,7 @@ fn deadline_is_off_by(dialect: &Dialect, survey: &Survey) -> u64 {
 
 /// Whether a server that may not send is silent for longer than a probe timeout and a limit.
 fn is_past(dialect: &Dialect, survey: &Survey, limit: u64) -> bool {
-    let said = survey
-        .recovery
-        .initial_rtt
-        .or(survey.first_smoothed)
-        .unwrap_or(0);
+    let said = survey.initial_rtt().or(survey.first_smoothed).unwrap_or(0);
     let rtt = if said != 0 {
         said
     } else {
@@ -380,8 +398,13 @@ fn is_past(dialect: &Dialect, survey: &Survey, limit: u64) -> bool {
 
 /// The peer's `max_ack_delay` in the unit of the trace, if the log says it.
 fn max_ack_delay_of(survey: &Survey, writing: &mut Writing) -> Result<Option<u64>, AllocError>
+    ensures says_more { OnOk result ((g : AGuess) → will_say writing.old g ≡ true
+        → will_say writing.new g ≡ true) }
     ensures told { OnOk result (told_in writing.new ≡ told_in writing.old) }
     ensures unit { OnOk result (writing.new.output.unit ≡ writing.old.output.unit) }
+    ensures delay { IfOk result (λ (delay : Option ℕ). IsDelay writing.old.output.unit
+        survey.now.of_peer.max_ack_delay (will_say writing.new) (unwrap_or delay
+        (settings.in_unit writing.old.output.unit default_max_ack_delay))) }
 {
     match survey.of_peer.max_ack_delay {
         Some(delay) => Ok(Some(writing.output.in_unit(delay))),
@@ -392,32 +415,46 @@ fn max_ack_delay_of(survey: &Survey, writing: &mut Writing) -> Result<Option<u64
     }
 }
 
-/// The round-trip time before a sample in the unit of the trace, if something says it.
+/// The round-trip time before a sample in the unit of the trace, if something says one that a
+/// header can say.
 fn initial_rtt_of(
     dialect: &Dialect,
     survey: &Survey,
     writing: &mut Writing,
 ) -> Result<Option<u64>, AllocError>
+    ensures says_more { OnOk result ((g : AGuess) → will_say writing.old g ≡ true
+        → will_say writing.new g ≡ true) }
     ensures told { OnOk result (told_in writing.new ≡ told_in writing.old) }
     ensures unit { OnOk result (writing.new.output.unit ≡ writing.old.output.unit) }
+    ensures rtt { IfOk result (λ (rtt : Option ℕ). IsInitialRtt writing.old.output.unit
+        (a_not_zero (rtt_said survey.now.retry survey.now.recovery.initial_rtt))
+        dialect.now.initial_rtt survey.now.first_smoothed (will_say writing.new)
+        (rtt_or_default writing.old.output.unit rtt)) }
 {
-    let said = survey.recovery.initial_rtt.unwrap_or(0);
-    let found = if said != 0 {
-        Some(said)
-    } else if let Some(microseconds) = dialect.initial_rtt {
-        writing.guess(Guess::InitialRtt)?;
-        Some(microseconds.saturating_mul(1_000))
-    } else {
-        survey.first_smoothed
-    };
-    let Some(nanoseconds) = found else {
-        return Ok(None);
-    };
-    let rtt = writing.output.in_unit(nanoseconds);
-    if rtt == 0 || GREATEST_INITIAL_RTT < nanoseconds {
-        return Ok(None);
+    if let Some(said) = not_zero(survey.initial_rtt()) {
+        return Ok(rtt_in(writing.output.unit, said));
     }
-    Ok(Some(rtt))
+    if let Some(microseconds) = dialect.initial_rtt {
+        writing.guess(Guess::InitialRtt)?;
+        let nanoseconds = microseconds.saturating_mul(1_000);
+        return Ok(rtt_in(writing.output.unit, nanoseconds));
+    }
+    match survey.first_smoothed {
+        Some(smoothed) => Ok(rtt_in(writing.output.unit, smoothed)),
+        None => Ok(None),
+    }
+}
+
+/// A round-trip time in the unit of a trace, if a header can say it.
+fn rtt_in(unit: TimeUnit, nanoseconds: u64) -> Option<u64>
+    ensures { result ≡ an_rtt_in unit nanoseconds }
+{
+    let rtt = in_unit_of(unit, nanoseconds);
+    if rtt == 0 || GREATEST_INITIAL_RTT < nanoseconds {
+        None
+    } else {
+        Some(rtt)
+    }
 }
 
 /// The first window, if something says one that a header can say.
@@ -428,24 +465,33 @@ fn window_of(
     controller: Controller,
     size: u64,
 ) -> Result<Option<u64>, AllocError>
+    ensures says_more { OnOk result ((g : AGuess) → will_say writing.old g ≡ true
+        → will_say writing.new g ≡ true) }
     ensures told { OnOk result (told_in writing.new ≡ told_in writing.old) }
     ensures unit { OnOk result (writing.new.output.unit ≡ writing.old.output.unit) }
+    ensures window { IfOk result (λ (window : Option ℕ).
+        IsWindow (dialect.now.hides_window && is_reported controller) size
+        (window_said (sources_in survey.now)) (will_say writing.new)
+        (unwrap_or window (default_window size))) }
 {
-    let said = survey
-        .recovery
-        .initial_window
-        .or(survey.first_window)
-        .unwrap_or(0);
-    let window = if dialect.hides_window && controller == Controller::Reported {
+    if dialect.hides_window && controller.is_reported() {
         writing.guess(Guess::HiddenWindow)?;
-        GREATEST_WINDOW
-    } else {
-        said
-    };
+        return Ok(window_in(size, GREATEST_WINDOW));
+    }
+    match survey.recovery.initial_window.or(survey.first_window) {
+        Some(window) => Ok(window_in(size, window)),
+        None => Ok(None),
+    }
+}
+
+/// A first window, if a header of datagrams of this size can say it.
+fn window_in(size: u64, window: u64) -> Option<u64>
+    ensures { result ≡ in_range (minimum_window size) max_initial_window window }
+{
     if size.saturating_mul(2) <= window && window <= GREATEST_WINDOW {
-        Ok(Some(window))
+        Some(window)
     } else {
-        Ok(None)
+        None
     }
 }
 
@@ -455,8 +501,12 @@ fn datagram_size_of(
     survey: &Survey,
     writing: &mut Writing,
 ) -> Result<u64, AllocError>
+    ensures says_more { OnOk result ((g : AGuess) → will_say writing.old g ≡ true
+        → will_say writing.new g ≡ true) }
     ensures told { OnOk result (told_in writing.new ≡ told_in writing.old) }
     ensures unit { OnOk result (writing.new.output.unit ≡ writing.old.output.unit) }
+    ensures size { IfOk result (IsSize (size_said survey.now.recovery.max_datagram_size)
+        (will_say writing.new)) }
 {
     let said = survey.recovery.max_datagram_size.unwrap_or(0);
     if LEAST_DATAGRAM <= said && said <= PacketSize::MAX {

@@ -2,10 +2,12 @@
 ghost use Rattle.qa_convert.specs.Telling.{told, with_event};
 ghost use Rattle.std.specs.Prelude.{◌≡◌, ◌++◌, ◌∷◌, [], OnErr, OnOk, IfOk, true};
 ghost use Rattle.qa_base.specs.values.Events.{fits};
+ghost use Rattle.qa_convert.specs.Headers.{own_say};
 ghost use Rattle.qa_convert.specs.Outputs.{are_of_line, guessed, in_unit};
 ghost use Rattle.qa_convert.specs.Outputs.{has_guess, marks_of, own_members, with_guess};
 ghost use Rattle.qa_convert.specs.Marks.{Marks};
 ghost use Rattle.qa_convert.specs.OwnKeys.{AreOwn, noted};
+ghost use Rattle.qa_convert.specs.declared.guess.Guess.{Guess as AGuess};
 ghost use Rattle.serde_json.specs.Data.{Members, no_members};
 ghost use Rattle.serde_json.specs.View.{members_view};
 ghost use Rattle.qa_format.specs.declared.line.Line.TheVariants as lines;
@@ -157,7 +159,9 @@ impl Output {
         doubts: &[String],
     ) -> Result<HeaderLine, NotedFault>
         ensures line { IfOk result (λ line. (own : Members) × AreOwn own
-            × (line ≡ noted (lines.Header header) own ++ 10 ∷ [])) }
+            × (line ≡ noted (lines.Header header) own ++ 10 ∷ [])
+            × ((g : AGuess) → has_guess g self.old.guesses.items ≡ true
+            → own_say own g ≡ true)) }
         ensures text { self.new.text ≡ self.old.text }
         ensures unit { self.new.unit ≡ self.old.unit }
         ensures places { self.new.has_places ≡ self.old.has_places }
@@ -171,6 +175,9 @@ impl Output {
     /// The own keys of the header.
     fn header_keys(&self, dialect: &str, doubts: &[String]) -> Result<OwnKeys, AllocError>
         ensures own { IfOk result (λ own. AreOwn (members_view own.entries)) }
+        ensures guesses { IfOk result (λ own. (g : AGuess)
+            → has_guess g self.now.guesses.items ≡ true
+            → own_say (members_view own.entries) g ≡ true) }
     {
         let mut own = OwnKeys::new(self.alloc);
         put_if_ascii(&mut own, self.alloc, OwnKey::Dialect, dialect)?;

@@ -1,7 +1,7 @@
 //! The keys that a line has beside those of its table.
 ghost use Rattle.std.specs.Prelude.{◌≡◌, IfOk, OnErr, OnOk, map, nat_lt, not, true};
 ghost use Rattle.std.specs.List.{AllByRecursion, list_any};
-ghost use Rattle.serde_json.specs.Data.{array, put, string};
+ghost use Rattle.serde_json.specs.Data.{Data, array, put, string};
 ghost use Rattle.serde_json.specs.View.{members_view, view};
 ghost use Rattle.qa_convert.specs.OwnKeys.{AreOwn, IsText, own_key_name};
 ghost use Rattle.qa_format.specs.format.Simple.{IsKept, is_ascii};
@@ -113,6 +113,8 @@ pub(crate) fn put_texts(
     texts: &[String],
 ) -> Result<(), AllocError>
     requires own { AreOwn (members_view keys.old.entries) }
+    ensures ok { OnOk result ((list : Data) × (members_view keys.new.entries
+        ≡ put (own_key_name key) list (members_view keys.old.entries))) }
     ensures own { AreOwn (members_view keys.new.entries) }
 {
     let list = list_of(alloc, texts)?;

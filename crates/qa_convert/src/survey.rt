@@ -1,9 +1,18 @@
 //! The first reading of a log: what has to be known before the first line is written.
+ghost use Rattle.std.specs.Prelude.{◌≡◌, ◌||◌, OnOk, false, true};
+ghost use Rattle.qa_convert.specs.Groups.{has_some};
+ghost use Rattle.qa_convert.specs.Guesses.{is_of_datagram};
+ghost use Rattle.qa_convert.specs.Orders.{is_received};
+ghost use Rattle.qa_convert.specs.Sources.{both_said, both_set, exponent_of, has_acks, no_sources};
+ghost use Rattle.qa_convert.specs.Sources.{not_zero as a_not_zero, reported, reported_first};
+ghost use Rattle.qa_convert.specs.Sources.{rtt_said, sources_by, sources_in};
+ghost use Rattle.qa_convert.specs.declared.event.Said.TheVariants as a_said;
+
 use crate::dialects::Dialect;
 use crate::event::{At, LoggedEvent, PeerParameters, RecoveryParameters, Report, Said};
 use crate::guess::Guess;
 use crate::looking::{Looking, MILLISECOND};
-use crate::packet::{LoggedPacket, NoEvent};
+use crate::packet::{LoggedAck, LoggedPacket, NoEvent};
 use crate::place::Place;
 use crate::size::PacketSize;
 use crate::sizes::Sizes;
@@ -31,6 +40,9 @@ pub(crate) struct Retry {
     pub(crate) is_logged: bool,
     /// The last numbers that were sent before it.
     pub(crate) numbers: PerSpace<Option<u64>>,
+    /// The round-trip time that the sender may assume from there on (RFC 9002, section 6.3), in
+    /// nanoseconds, if the log does not say another one since.
+    pub(crate) rtt: Option<u64>,
 }
 
 /// Why a log gives no trace.
@@ -126,7 +138,9 @@ pub(crate) struct Survey {
 
 impl Survey {
     /// Before the first event of an endpoint. Takes no memory.
-    pub(crate) fn new(alloc: Global, dialect: &Dialect, role: Role) -> Survey {
+    pub(crate) fn new(alloc: Global, dialect: &Dialect, role: Role) -> Survey
+        ensures { sources_in result ≡ no_sources }
+    {
         let none = PerSpace {
             initial: None,
             handshake: None,
@@ -191,7 +205,10 @@ impl Survey {
         alloc: Global,
         event: &LoggedEvent,
         said: &Packet<'_, '_>,
-    ) -> Result<(), NoEvent> {
+    ) -> Result<(), NoEvent>
+        ensures { OnOk result (sources_in self.new
+            ≡ sources_by event.now.said (sources_in self.old)) }
+    {
         self.see_time(event.at.time);
         let is_looked_at = self.looking.goes_on();
         match &event.said {
@@ -223,7 +240,9 @@ impl Survey {
     }
 
     /// Looks at a time.
-    fn see_time(&mut self, time: u64) {
+    fn see_time(&mut self, time: u64)
+        ensures { sources_in self.new ≡ sources_in self.old }
+    {
         if time % MILLISECOND != 0 {
             self.has_milliseconds = false;
         }
@@ -233,7 +252,10 @@ impl Survey {
     }
 
     /// Looks at an event that is no packet of a space.
-    fn see_other(&mut self, at: At, said: &Said) {
+    fn see_other(&mut self, at: At, said: &Said)
+        ensures { is_received said.now ≡ false
+            → sources_in self.new ≡ sources_by said.now (sources_in self.old) }
+    {
         match said {
             Said::OtherSent => self.is_behind_timer = false,
             Said::OtherReceived(is_retry) => self.see_other_received(at, *is_retry),
@@ -246,13 +268,29 @@ impl Survey {
                 self.validation.see_timer(at.time);
             }
             Said::OfPeer(parameters) => self.of_peer = parameters.behind(self.of_peer),
-            Said::Recovery(parameters) => self.recovery = parameters.behind(self.recovery),
+            Said::Recovery(parameters) => self.see_recovery(*parameters),
             _ => {}
         }
     }
 
+    /// Looks at parameters of recovery.
+    fn see_recovery(&mut self, parameters: RecoveryParameters)
+        ensures { sources_in self.new
+            ≡ sources_by (a_said.Recovery parameters) (sources_in self.old) }
+    {
+        self.recovery = parameters.behind(self.recovery);
+        if parameters.initial_rtt.is_none() {
+            return;
+        }
+        if let Some(retry) = self.retry {
+            self.retry = Some(Retry { rtt: None, ..retry });
+        }
+    }
+
     /// Counts with an event that is no packet of a space.
-    fn look_at_other(&mut self, at: At, said: &Said) -> Result<(), AllocError> {
+    fn look_at_other(&mut self, at: At, said: &Said) -> Result<(), AllocError>
+        ensures { sources_in self.new ≡ sources_in self.old }
+    {
         match said {
             Said::Lost(lost) if !lost.is_repeated => self.looking.see_lost(at.time, *lost),
             Said::Report(report) => {
@@ -269,7 +307,9 @@ impl Survey {
 
     /// Looks at a packet of no space that came. A client takes in one Retry at most (RFC 9000,
     /// section 17.2.5.2).
-    fn see_other_received(&mut self, at: At, is_retry: bool) {
+    fn see_other_received(&mut self, at: At, is_retry: bool)
+        ensures { sources_in self.new ≡ sources_in self.old }
+    {
         self.is_behind_timer = false;
         if is_retry && self.role == Role::Client && self.retry.is_none() {
             self.retry = Some(Retry {
@@ -277,6 +317,7 @@ impl Survey {
                 place: at.place,
                 is_logged: true,
                 numbers: self.last_numbers,
+                rtt: None,
             });
         }
     }
@@ -287,7 +328,9 @@ impl Survey {
         at: At,
         packet: &LoggedPacket,
         said: &Packet<'_, '_>,
-    ) -> Result<PacketSize, NoEvent> {
+    ) -> Result<PacketSize, NoEvent>
+        ensures { sources_in self.new ≡ sources_in self.old }
+    {
         *self.last_numbers.of_mut(packet.space) = Some(packet.number.get());
         self.sent_frames.see(said);
         let size = match packet.size {
@@ -306,7 +349,9 @@ impl Survey {
     }
 
     /// The size of a packet of this space whose record does not have it.
-    fn find_size(&mut self, said: &Packet<'_, '_>, space: Space) -> Result<PacketSize, NoEvent> {
+    fn find_size(&mut self, said: &Packet<'_, '_>, space: Space) -> Result<PacketSize, NoEvent>
+        ensures { sources_in self.new ≡ sources_in self.old }
+    {
         match self.sizes.see(said, space)? {
             Some(found) => {
                 self.has_found_sizes = true;
@@ -324,7 +369,9 @@ impl Survey {
         at: At,
         packet: &LoggedPacket,
         said: &Packet<'_, '_>,
-    ) -> Result<(), AllocError> {
+    ) -> Result<(), AllocError>
+        ensures { sources_in self.new ≡ sources_in self.old }
+    {
         if packet.space != Space::Initial || self.role != Role::Client || self.has_received {
             return Ok(());
         }
@@ -335,11 +382,8 @@ impl Survey {
                 place: at.place,
                 is_logged: false,
                 numbers: self.last_numbers,
+                rtt: not_zero(Some(self.smoothed)),
             });
-            // It may have measured what it assumes from there on (RFC 9002, section 6.3).
-            if self.smoothed != 0 {
-                self.recovery.initial_rtt = Some(self.smoothed);
-            }
         }
         self.destination = match found {
             Some(text) => Some(String::from_str(alloc, text)?),
@@ -358,13 +402,14 @@ impl Survey {
     }
 
     /// Looks at a packet that came.
-    fn see_received(&mut self, at: At, packet: &LoggedPacket, said: &Packet<'_, '_>) {
+    fn see_received(&mut self, at: At, packet: &LoggedPacket, said: &Packet<'_, '_>)
+        ensures { sources_in self.new ≡ record (sources_in self.old) {
+          has_ack = self.old.has_ack || has_acks packet.now;
+        } }
+    {
         self.has_received = true;
         self.received_frames.see(said);
-        for ack in &packet.acks {
-            self.has_ack = true;
-            self.has_marks = self.has_marks || ack.has_marks;
-        }
+        self.see_acks(&packet.acks);
         self.validation.see_received(at.time, packet, said);
         if packet.space != Space::Handshake {
             return;
@@ -375,8 +420,25 @@ impl Survey {
         }
     }
 
+    /// Looks at the ACK frames of a packet that came.
+    fn see_acks(&mut self, acks: &[LoggedAck])
+        ensures { sources_in self.new ≡ record (sources_in self.old) {
+          has_ack = self.old.has_ack || has_some acks.now;
+        } }
+    {
+        if acks.is_empty() {
+            return;
+        }
+        self.has_ack = true;
+        if acks.iter().any(|ack| ack.has_marks) {
+            self.has_marks = true;
+        }
+    }
+
     /// Looks at a report.
-    fn see_report(&mut self, report: Report) {
+    fn see_report(&mut self, report: Report)
+        ensures { sources_in self.new ≡ reported report (sources_in self.old) }
+    {
         self.has_window = self.has_window || report.bytes.window.is_some();
         if let Some(count) = report.pto_count {
             self.highest_pto_count = Some(count.max(self.highest_pto_count.unwrap_or(0)));
@@ -391,7 +453,9 @@ impl Survey {
 
     /// Looks at a report before an acknowledgment came. One with a sample may be in front of the
     /// packet that gave it.
-    fn see_first(&mut self, report: Report) {
+    fn see_first(&mut self, report: Report)
+        ensures { sources_in self.new ≡ reported_first report (sources_in self.old) }
+    {
         self.smoothed = report.rtts.smoothed.unwrap_or(self.smoothed);
         self.first_window = self.first_window.or(not_zero(report.bytes.window));
         if self.first_smoothed.is_none() && not_zero(report.rtts.latest).is_none() {
@@ -424,8 +488,20 @@ impl Survey {
         self.has_milliseconds && self.looking.samples.cut != 0
     }
 
+    /// The round-trip time before a sample that the log says, in nanoseconds.
+    pub(crate) fn initial_rtt(&self) -> Option<u64>
+        ensures { result ≡ rtt_said self.now.retry self.now.recovery.initial_rtt }
+    {
+        match self.retry {
+            Some(retry) => retry.rtt.or(self.recovery.initial_rtt),
+            None => self.recovery.initial_rtt,
+        }
+    }
+
     /// By how many bits a delay on the wire is shifted.
-    pub(crate) fn delay_exponent(&self) -> u64 {
+    pub(crate) fn delay_exponent(&self) -> u64
+        ensures { result ≡ exponent_of (sources_in self.now) }
+    {
         self.of_peer
             .ack_delay_exponent
             .unwrap_or(DEFAULT_DELAY_EXPONENT)
@@ -433,7 +509,9 @@ impl Survey {
 
     /// The datagram size: the part of the first window, if no packet was larger; else the largest
     /// packet.
-    pub(crate) fn max_datagram_size(&self, initial_datagrams: u64) -> (u64, Guess) {
+    pub(crate) fn max_datagram_size(&self, initial_datagrams: u64) -> (u64, Guess)
+        ensures { is_of_datagram result.1 ≡ true }
+    {
         let window = self.first_window.unwrap_or(0);
         let part = match window.checked_div(initial_datagrams) {
             Some(part) => part,
@@ -453,7 +531,9 @@ impl Survey {
 }
 
 /// A value, if it is not 0.
-fn not_zero(value: Option<u64>) -> Option<u64> {
+pub(crate) fn not_zero(value: Option<u64>) -> Option<u64>
+    ensures { result ≡ a_not_zero value }
+{
     match value {
         Some(0) => None,
         other => other,
@@ -504,7 +584,9 @@ impl Reset {
 
 impl PeerParameters {
     /// What both say, these behind the others.
-    fn behind(self, before: PeerParameters) -> PeerParameters {
+    fn behind(self, before: PeerParameters) -> PeerParameters
+        ensures { result ≡ both_said self before }
+    {
         PeerParameters {
             max_ack_delay: self.max_ack_delay.or(before.max_ack_delay),
             ack_delay_exponent: self.ack_delay_exponent.or(before.ack_delay_exponent),
@@ -514,7 +596,9 @@ impl PeerParameters {
 
 impl RecoveryParameters {
     /// None.
-    fn none() -> RecoveryParameters {
+    fn none() -> RecoveryParameters
+        ensures { result ≡ no_sources.recovery }
+    {
         RecoveryParameters {
             initial_rtt: None,
             max_datagram_size: None,
@@ -525,7 +609,9 @@ impl RecoveryParameters {
     }
 
     /// What both say, these behind the others.
-    fn behind(self, before: RecoveryParameters) -> RecoveryParameters {
+    fn behind(self, before: RecoveryParameters) -> RecoveryParameters
+        ensures { result ≡ both_set self before }
+    {
         RecoveryParameters {
             initial_rtt: self.initial_rtt.or(before.initial_rtt),
             max_datagram_size: self.max_datagram_size.or(before.max_datagram_size),

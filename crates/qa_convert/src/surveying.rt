@@ -1,9 +1,14 @@
 //! The first reading of a log: its texts, one after another.
-ghost use Rattle.std.specs.Prelude.{◌≡◌, IfOk, None};
-ghost use Rattle.json.specs.Json.{Json};
-ghost use Rattle.json.specs.Find.{BeginsWith};
+ghost use Rattle.std.specs.Prelude.{◌≡◌, IfOk, List, None, OnOk, Option, Some};
+ghost use Rattle.json.specs.Json.{Json, document};
+ghost use Rattle.json.specs.Find.{BeginsWith, Finds};
 ghost use Rattle.qa_convert.specs.Connections.{none_named, numbering_of};
-ghost use Rattle.qa_convert.specs.Reading.{Reads, at_of, clock_before, next_index};
+ghost use Rattle.qa_convert.specs.Reading.{Reads, SaysAll, SaysLosses, at_of, clock_before};
+ghost use Rattle.qa_convert.specs.Reading.{next_index};
+ghost use Rattle.qa_convert.specs.Sources.{no_sources, sources_after, sources_in};
+ghost use Rattle.qa_convert.specs.Surveying.{Surveys, passed_over};
+ghost use Rattle.qa_convert.specs.Surveying.{surveyed_by, unread};
+ghost use Rattle.qa_convert.specs.declared.event.Said.{Said as ASaid};
 
 use crate::clock::Clock;
 use crate::connections::Connections;
@@ -145,7 +150,9 @@ pub(crate) struct Surveying {
 
 impl Surveying {
     /// Before the first record of a log.
-    pub(crate) fn new(alloc: Global, head: Head, chosen: u64, survey: Survey) -> Surveying {
+    pub(crate) fn new(alloc: Global, head: Head, chosen: u64, survey: Survey) -> Surveying
+        ensures { sources_in survey ≡ no_sources → surveyed_by result ≡ unread head chosen }
+    {
         let cursor = Cursor::new(alloc, &head, chosen);
         Surveying {
             alloc,
@@ -161,7 +168,10 @@ impl Surveying {
         room: &mut Room,
         text: &[u8],
         place: Place,
-    ) -> Result<(), NoRecord> {
+    ) -> Result<(), NoRecord>
+        ensures { OnOk result ((j : Json) × (document text.now ≡ Some j)
+            × Surveys j (surveyed_by self.old) (surveyed_by self.new)) }
+    {
         let Ok(text) = str::from_utf8(text) else {
             return Err(NoRecord::NotJson);
         };
@@ -173,16 +183,32 @@ impl Surveying {
     }
 
     /// Passes over a text that is not JSON, and that says nothing of packets.
-    pub(crate) fn push_unread(&mut self, place: Place) {
+    pub(crate) fn push_unread(&mut self, place: Place)
+        ensures { surveyed_by self.new ≡ passed_over (surveyed_by self.old) }
+    {
         self.cursor.pass(place);
     }
 
     /// Looks at the next record.
-    fn see(&mut self, record: &Element<'_, '_>, place: Place) -> Result<(), NoRecord> {
-        let Some(named) = self.cursor.next(&self.head, record, place)? else {
-            return Ok(());
-        };
-        let Named { name, at, object } = named;
+    fn see(&mut self, record: &Element<'_, '_>, place: Place) -> Result<(), NoRecord>
+        ensures { (j : Json) → BeginsWith record.now j
+            → OnOk result (Surveys j (surveyed_by self.old) (surveyed_by self.new)) }
+    {
+        match self.cursor.next(&self.head, record, place)? {
+            Some(named) => self.see_event(named),
+            None => Ok(()),
+        }
+    }
+
+    /// Looks at the event of a record.
+    fn see_event(&mut self, event: Named<'_, '_>) -> Result<(), NoRecord>
+        ensures says { (d : Option Json) → Finds event.entry.object d
+            → OnOk result ((all : List ASaid) × SaysAll self.old.head.unit event.entry.name d all
+            × (sources_in self.new.survey ≡ sources_after all (sources_in self.old.survey))) }
+        ensures head { self.new.head ≡ self.old.head }
+        ensures cursor { self.new.cursor ≡ self.old.cursor }
+    {
+        let Named { name, at, object } = event;
         if name == EventName::PacketsLost {
             return self.see_losses(&object, at);
         }
@@ -194,8 +220,25 @@ impl Surveying {
     }
 
     /// Looks at the losses that a record names, whose data is this object.
-    fn see_losses(&mut self, object: &Option<Element<'_, '_>>, at: At) -> Result<(), NoRecord> {
-        for said in losses_of(self.alloc, object)? {
+    fn see_losses(&mut self, object: &Option<Element<'_, '_>>, at: At) -> Result<(), NoRecord>
+        ensures says { (d : Option Json) → Finds object.now d → OnOk result ((all : List ASaid)
+            × SaysLosses d all
+            × (sources_in self.new.survey ≡ sources_after all (sources_in self.old.survey))) }
+        ensures head { self.new.head ≡ self.old.head }
+        ensures cursor { self.new.cursor ≡ self.old.cursor }
+    {
+        let losses = losses_of(self.alloc, object)?;
+        self.see_all(losses, at)
+    }
+
+    /// Looks at events, one after another, whose record is there.
+    fn see_all(&mut self, all: Vec<Said>, at: At) -> Result<(), NoRecord>
+        ensures sources { OnOk result (sources_in self.new.survey
+            ≡ sources_after all.items (sources_in self.old.survey)) }
+        ensures head { self.new.head ≡ self.old.head }
+        ensures cursor { self.new.cursor ≡ self.old.cursor }
+    {
+        for said in all {
             let event = LoggedEvent { at, said };
             self.survey.see(self.alloc, &event, &Packet::of(None))?;
         }

@@ -2,8 +2,10 @@
 ghost use Rattle.std.specs.Prelude.{◌≡◌, [], IfOk, OnOk, Some};
 ghost use Rattle.json.specs.Json.{Json, document};
 ghost use Rattle.qa_convert.specs.Dialects.{IsLike};
-ghost use Rattle.qa_convert.specs.OwnKeys.{AreEventLines, IsHeaderLine, SaysUnit};
+ghost use Rattle.qa_convert.specs.OwnKeys.{AreEventLines, IsHeaderLine};
+ghost use Rattle.qa_convert.specs.Headers.{IsHeaderOf};
 ghost use Rattle.qa_convert.specs.Passing.{Closes};
+ghost use Rattle.qa_convert.specs.Surveying.{Surveys, passed_over, unread};
 ghost use Rattle.qa_convert.specs.Taking.{Begins, Takes, TakesUnread};
 ghost use Rattle.qa_convert.specs.Telling.{nothing, told};
 
@@ -89,7 +91,7 @@ pub struct Asked {
 }
 
 /// The first reading of a log. Nothing is written yet: its end may decide its first line. Contracts
-/// see what is asked of its trace.
+/// see what is asked of its trace, how far the log is read, and what it says of the whole trace.
 #[derive(Drop)]
 pub struct FirstReading {
     alloc: Global,
@@ -99,17 +101,18 @@ pub struct FirstReading {
 }
 
 impl Model for FirstReading {
+    ghost use Rattle.qa_convert.specs.Surveying.{Surveyed, surveyed_by};
     ghost use Rattle.qa_convert.specs.declared.trace.Asked.{Asked};
 
-    ghost Value = { Asked };
+    ghost Value = { Asked × Surveyed };
 
-    ghost view = { λ r. r.asked };
+    ghost view = { λ r. (r.asked, surveyed_by r.surveying) };
 }
 
 impl FirstReading {
     /// Before the first record of a log with this head.
     pub fn new(alloc: Global, head: Head, asked: Asked) -> FirstReading
-        ensures { result ≡ asked }
+        ensures { result ≡ (asked, unread head asked.connection) }
     {
         let survey = Survey::new(alloc, &asked.dialect, asked.role);
         let surveying = Surveying::new(alloc, head, asked.connection, survey);
@@ -124,7 +127,9 @@ impl FirstReading {
     /// Looks at the next text, which begins there. `NotJson` leaves all as it was; after any other
     /// error it is of no use.
     pub fn push(&mut self, text: &[u8], place: Place) -> Result<(), NoRecord>
-        ensures { self.new ≡ self.old }
+        ensures asked { self.new.0 ≡ self.old.0 }
+        ensures surveys { OnOk result ((j : Json) × (document text.now ≡ Some j)
+            × Surveys j self.old.1 self.new.1) }
     {
         let result = self.surveying.push(&mut self.room, text, place);
         self.room.clear();
@@ -133,7 +138,7 @@ impl FirstReading {
 
     /// Passes over a text that is not JSON, and that says nothing of packets.
     pub fn push_unread(&mut self, place: Place)
-        ensures { self.new ≡ self.old }
+        ensures { self.new ≡ (self.old.0, passed_over self.old.1) }
     {
         self.surveying.push_unread(place);
     }
@@ -145,9 +150,10 @@ impl FirstReading {
 
     /// The log ends: the second reading. `head` is that of the log again.
     pub fn second(self, head: Head) -> Result<SecondReading, NoTrace>
-        ensures begins { IfOk result (λ second. Begins head self.connection
-            self.dialect second.2) }
-        ensures unit { IfOk result (λ second. SaysUnit second.2.rules.decoding.unit second.0) }
+        ensures begins { IfOk result (λ second. Begins head self.0.connection self.0.dialect
+            self.1.sources second.2) }
+        ensures header { IfOk result (λ second. IsHeaderOf self.0 self.1.sources
+            second.2.retry second.2.rules.decoding.unit second.0) }
         ensures told { IfOk result (λ second. told second.1 ≡ nothing) }
     {
         let FirstReading {

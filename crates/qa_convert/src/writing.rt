@@ -103,6 +103,8 @@ impl Writing {
 
     /// Counts what is left out.
     pub(crate) fn omit(&mut self, omission: Omission) -> Result<(), AllocError>
+        ensures says_more { OnOk result ((g : AGuess) → will_say self.old g ≡ true
+            → will_say self.new g ≡ true) }
         ensures told { OnOk result (told_in self.new ≡ told_in self.old) }
         ensures bare { OnOk result (self.new.bare ≡ self.old.bare) }
         ensures unit { OnOk result (self.new.output.unit ≡ self.old.output.unit) }
@@ -112,6 +114,8 @@ impl Writing {
 
     /// Finds that no probe timeout shows, and how late timers may be in microseconds.
     pub(crate) fn find_unseen(&mut self, limit: u64) -> Result<(), AllocError>
+        ensures says_more { OnOk result ((g : AGuess) → will_say self.old g ≡ true
+            → will_say self.new g ≡ true) }
         ensures told { OnOk result (told_in self.new ≡ told_in self.old) }
         ensures unit { OnOk result (self.new.output.unit ≡ self.old.output.unit) }
     {
@@ -126,6 +130,8 @@ impl Writing {
     /// Finds that a clock of whole milliseconds is off by so many timeouts in a row, and how late
     /// timers may be in microseconds.
     pub(crate) fn find_off(&mut self, count: u64, limit: u64) -> Result<(), AllocError>
+        ensures says_more { OnOk result ((g : AGuess) → will_say self.old g ≡ true
+            → will_say self.new g ≡ true) }
         ensures told { OnOk result (told_in self.new ≡ told_in self.old) }
         ensures unit { OnOk result (self.new.output.unit ≡ self.old.output.unit) }
     {
@@ -249,8 +255,8 @@ impl Writing {
         Ok(())
     }
 
-    /// The line of the confirmed handshake: the log tells there that the Handshake keys are gone,
-    /// or this is a guess.
+    /// The line of the confirmed handshake. If the log told that the Handshake keys are gone,
+    /// `told` is where it did; otherwise the line says that it is a guess.
     pub(crate) fn confirmed(&mut self, at: At, told: Option<Place>) -> Result<(), NoLine>
         ensures told { OnOk result (Discards told a_space.Handshake (told_in self.old)
             (told_in self.new)) }
@@ -265,8 +271,9 @@ impl Writing {
         Ok(())
     }
 
-    /// The line of the keys of a space that are gone, with what was in flight in it: the log tells
-    /// it there, or this is a guess. Asks for a space of the handshake.
+    /// The line of the keys of a space that are gone, with what was in flight in it. If the log
+    /// told it, `told` is where it did; otherwise the line says that it is a guess. Asks for a
+    /// space of the handshake.
     pub(crate) fn discard(
         &mut self,
         at: At,

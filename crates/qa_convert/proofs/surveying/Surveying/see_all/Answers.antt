@@ -1,0 +1,27 @@
+use Rattle.std.proofs.Common.{◌≡◌, ◌∙◌, ◌∷◌, [], List, ap, length, refl, sym, rules}
+use Rattle.std.specs.Vec.Iter.{into_iter_items}
+use Rattle.qa_convert.specs.Sources.{sources_after}
+use Rattle.qa_convert.specs.declared.event.Said.{Said}
+use Rattle.qa_convert.proofs.surveying.Surveying.see_all.Goals as goal
+
+pub loop-said-preserved : goal.loop-said-preserved
+loop-said-preserved c =
+    let now = c.loop-said.invariant in
+    let rest = into_iter_items c.next.new.self in
+    record {
+      next = tt;
+      finite = tt;
+      sources = ap (sources_after rest) c.in_ok-see.ensures ∙ (rw c.in-Some.ensures.steps.0 at now.sources);
+      head = now.head;
+      cursor = now.cursor;
+    }
+
+nothing_left : (all : List Said) → length all ≡ 0 → all ≡ []
+nothing_left [] e = refl
+nothing_left (s ∷ all) e = absurd (search rules)
+
+pub returns-clause-sources : goal.returns-clause-sources
+returns-clause-sources c =
+    let none : into_iter_items c.loop-said.said-iterator ≡ [] =
+    nothing_left (into_iter_items c.loop-said.said-iterator) (sym c.loop-said.said-iterator.rest.ok.0 ∙ c.in-None.ensures.steps.0) in
+    rw none at c.loop-said.invariant.sources
