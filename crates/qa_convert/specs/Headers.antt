@@ -6,8 +6,7 @@ use Rattle.std.specs.Option.{option_or}
 use Rattle.serde_json.specs.Data.{Members}
 use Rattle.serde_json.specs.Find.{get_member}
 use Rattle.qa_base.specs.declared.header.ConnectionValues.{ConnectionValues}
-use Rattle.qa_base.specs.declared.space.Controller.{Controller}
-use Rattle.qa_base.specs.declared.space.Role.{Role}
+use Rattle.qa_base.specs.declared.header.Options.{Options}
 use Rattle.qa_base.specs.declared.space.TimeUnit.{TimeUnit}
 use Rattle.qa_base.specs.values.Constants.{default_initial_rtt, default_max_ack_delay}
 use Rattle.qa_base.specs.values.Constants.{minimum_window}
@@ -17,6 +16,8 @@ use Rattle.qa_base.specs.values.Settings as settings
 use Rattle.qa_base.specs.values.Settings.{Settings, default_window, is_reported}
 use Rattle.qa_format.specs.declared.line.Line.TheVariants as line
 use Rattle.qa_format.specs.format.Lines.{with_lf}
+use Rattle.qa_convert.specs.Asking.{Asks, options_in, said_in, unit_of, version_of}
+use Rattle.qa_convert.specs.Dialects.{IsLike}
 use Rattle.qa_convert.specs.Guesses.{guess_text}
 use Rattle.qa_convert.specs.Marks.{lists}
 use Rattle.qa_convert.specs.Outputs.{in_unit}
@@ -25,10 +26,10 @@ use Rattle.qa_convert.specs.Sources.{Sources, not_zero, rtt_said}
 use Rattle.qa_convert.specs.declared.dialects.Dialect.{Dialect}
 use Rattle.qa_convert.specs.declared.guess.Guess.{Guess}
 use Rattle.qa_convert.specs.declared.guess.Guess.TheVariants as guess
+use Rattle.qa_convert.specs.declared.header.Choices.{Choices}
 use Rattle.qa_convert.specs.declared.header.Format.{Format}
 use Rattle.qa_convert.specs.declared.header.Format.TheVariants.{Three}
 use Rattle.qa_convert.specs.declared.own.OwnKey.TheVariants as keys
-use Rattle.qa_convert.specs.declared.survey.Retry.{Retry}
 use Rattle.qa_convert.specs.declared.trace.Asked.{Asked}
 
 -- the peer's delay; where the log does not say it, 25 ms, which is a guess (RFC 9000, section 18.2)
@@ -46,8 +47,8 @@ rtt_in unit ns =
 abbrev pub rtt_or_default : TimeUnit → Option ℕ → ℕ
 rtt_or_default unit rtt = unwrap_or rtt (settings.in_unit unit default_initial_rtt)
 
--- the RTT before a sample: what the log says of it; else what stands in the table of
--- the dialect, which is a guess; else what the first report says
+-- the RTT before a sample: what the log says of it; else what stands in the table of the dialect,
+-- which is a guess; else what the first report says
 abbrev pub IsInitialRtt : TimeUnit → Option ℕ → Option ℕ → Option ℕ → (Guess → Bool) → ℕ → Type 0
 IsInitialRtt unit (Some ns) table first says rtt = rtt ≡ rtt_or_default unit (rtt_in unit ns)
 IsInitialRtt unit None (Some us) first says rtt =
@@ -62,8 +63,7 @@ says_size says =
 
 -- the size of datagrams that the log says, if a header can say it
 abbrev pub size_said : Option ℕ → Option ℕ
-size_said None = None
-size_said (Some n) = in_range min_datagram_size max_packet_size n
+size_said = said_in min_datagram_size max_packet_size
 
 -- that size, or a guess
 abbrev pub IsSize : Option ℕ → (Guess → Bool) → ℕ → Type 0
@@ -86,43 +86,47 @@ IsWindow true size said says window =
     (window ≡ window_of size (Some max_initial_window)) × (says guess.HiddenWindow ≡ true)
 IsWindow false size said says window = window ≡ window_of size said
 
--- a header in such a format that says these guesses, of the log of such an endpoint with this
--- dialect
-pub record HeaderSays (r : Role) (f : Format) (d : Dialect) (log : Sources)
-    (retry : Option Retry) (says : Guess → Bool) (s : Settings) : Type 0 where
-  pub role : s.role ≡ r
+-- a header that says these guesses, by what a user says, by the dialect that was found, and by what
+-- the log says
+pub record HeaderSays (c : Choices) (d : Dialect) (log : Sources) (says : Guess → Bool)
+    (s : Settings) : Type 0 where
+  pub version : s.version ≡ version_of c.format
+  pub unit : s.unit ≡ unit_of c d log
   pub delay : IsDelay s.unit log.of_peer.max_ack_delay says s.max_ack_delay
-  pub rtt : IsInitialRtt s.unit (not_zero (rtt_said retry log.recovery.initial_rtt))
-      d.initial_rtt log.first_smoothed says s.initial_rtt
+  pub rtt : IsInitialRtt s.unit (not_zero (rtt_said log)) d.initial_rtt log.first_smoothed says
+      s.initial_rtt
   pub size : IsSize (size_said log.recovery.max_datagram_size) says s.max_datagram_size
   pub window : IsWindow (d.hides_window && is_reported s.options.controller)
       s.max_datagram_size (window_said log) says s.initial_window
-  pub controller : f ≡ Three → is_reported s.options.controller ≡ false
+  pub controller : c.format ≡ Three → is_reported s.options.controller ≡ false
       → log.has_window ≡ false → says guess.NoWindow ≡ true
+  pub options : Asks c.format c d log s.options
 
--- a header has these values, in this unit, and is judged by such a window
-pub record Keeps (u : TimeUnit) (values : ConnectionValues) (c : Controller)
+-- a header has these values, in this unit, and of these options what the version of the format says
+pub record Keeps (f : Format) (u : TimeUnit) (values : ConnectionValues) (o : Options)
     (s : Settings) : Type 0 where
   pub role : s.role ≡ values.role
   pub unit : s.unit ≡ u
+  pub version : s.version ≡ version_of f
   pub size : s.max_datagram_size ≡ values.max_datagram_size
   pub delay : s.max_ack_delay
       ≡ unwrap_or values.max_ack_delay (settings.in_unit u default_max_ack_delay)
   pub rtt : s.initial_rtt ≡ rtt_or_default u values.initial_rtt
   pub window : s.initial_window
       ≡ unwrap_or values.initial_window (default_window values.max_datagram_size)
-  pub controller : is_reported s.options.controller ≡ is_reported c
+  pub options : s.options ≡ options_in f o
 
 -- own keys say that this was guessed
 abbrev pub own_say : Members → Guess → Bool
 own_say own g = lists (guess_text g) (get_member (own_key_name keys.Guess) own)
 
--- bytes are the line of such a header, in this unit of time
-pub record IsHeaderOf (asked : Asked) (log : Sources) (retry : Option Retry) (u : TimeUnit)
-    (bytes : List ℕ) : Type 0 where
+-- bytes are the line of such a header, in this unit of time, by a dialect that was found
+pub record IsHeaderOf (asked : Asked) (log : Sources) (u : TimeUnit) (bytes : List ℕ) : Type 0 where
   pub settings : Settings
   pub own : Members
   pub text : bytes ≡ with_lf (noted (line.Header settings) own)
+  pub role : settings.role ≡ asked.role
   pub unit : settings.unit ≡ u
-  pub says : HeaderSays asked.role asked.choices.format asked.dialect log retry (own_say own)
-      settings
+  pub found : Dialect
+  pub like : IsLike asked.dialect found
+  pub says : HeaderSays asked.choices found log (own_say own) settings

@@ -1,4 +1,5 @@
 pub mod AckDelays
+pub mod Asking
 pub mod Clocks
 pub mod Connections
 pub mod Dialects

@@ -53,11 +53,13 @@ progress_of c = record {
   rules = rules_of c.conversion;
 }
 
--- no record is read, the connection of this number is converted, delays, sizes, reports and limits
--- are read as this dialect and what the log says of the peer say, and nothing is told of keys
+-- no record is read, the connection of this number is converted, behind the Retry that the log
+-- shows; delays, sizes, reports and limits are read as this dialect and what the log says of the
+-- peer say; and nothing is told of keys
 pub record Begins (h : Head) (chosen : ℕ) (d : Dialect) (said : Sources) (p : Progress)
     : Type 0 where
   pub head : p.head ≡ h
+  pub retry : p.retry ≡ said.retry
   pub clock : p.clock ≡ clock_before h
   pub connections : p.connections ≡ none_named chosen
   pub index : p.index ≡ 0

@@ -1,10 +1,16 @@
 //! The header of a trace: what the log says of its sender, what is known of its stack, and what the
 //! user of the converter says.
-ghost use Rattle.std.specs.Prelude.{◌≡◌, ◌&&◌, IfOk, OnOk, Option, ℕ, false, true, unwrap_or};
+ghost use Rattle.std.specs.Prelude.{◌≡◌, ◌≤◌, ◌⊎◌, ◌&&◌, IfOk, None, OnOk, Option, ℕ, false};
+ghost use Rattle.std.specs.Prelude.{true, unwrap_or};
+ghost use Rattle.qa_base.specs.declared.space.TimeUnit.TheVariants.{Microseconds};
 ghost use Rattle.qa_base.specs.values.Constants.{default_max_ack_delay, minimum_window};
 ghost use Rattle.qa_base.specs.values.Limits.{in_range, max_initial_window};
+ghost use Rattle.qa_base.specs.values.Limits.{max_time_threshold_eighths};
 ghost use Rattle.qa_base.specs.values.Settings as settings;
-ghost use Rattle.qa_base.specs.values.Settings.{default_window, is_reported};
+ghost use Rattle.qa_base.specs.values.Settings.{default_window, fit_version_two, is_reported};
+ghost use Rattle.qa_convert.specs.Asking.{Asks, IsAllowed, IsChosen, IsLate, controller_by};
+ghost use Rattle.qa_convert.specs.Asking.{eighths_by, is_other as an_is_other, options_in};
+ghost use Rattle.qa_convert.specs.Asking.{only_format, threshold_by, unit_of};
 ghost use Rattle.qa_convert.specs.Headers.{HeaderSays, IsDelay, IsInitialRtt, IsSize, IsWindow};
 ghost use Rattle.qa_convert.specs.Headers.{Keeps, rtt_in as an_rtt_in, rtt_or_default};
 ghost use Rattle.qa_convert.specs.Headers.{size_said, window_said};
@@ -126,7 +132,9 @@ impl From<RangeFault> for NoHeader {
 
 impl Choices {
     /// Those that leave all but the version of the format to what is known of the log.
-    pub fn of(format: Format) -> Choices {
+    pub fn of(format: Format) -> Choices
+        ensures { result ≡ only_format format }
+    {
         Choices {
             format,
             timer_late: None,
@@ -149,7 +157,9 @@ impl Choices {
     }
 
     /// The unit of the trace.
-    pub(crate) fn unit(&self, dialect: &Dialect, survey: &Survey) -> TimeUnit {
+    pub(crate) fn unit(&self, dialect: &Dialect, survey: &Survey) -> TimeUnit
+        ensures { result ≡ unit_of self.now dialect.now (sources_in survey.now) }
+    {
         if self.format < Format::Three {
             return TimeUnit::Microseconds;
         }
@@ -163,7 +173,10 @@ impl Choices {
 
     /// By whose window packets are judged. By which controller a sender has its window is its own
     /// choice (RFC 9002, section 7).
-    pub(crate) fn controller(&self, dialect: &Dialect, survey: &Survey) -> Controller {
+    pub(crate) fn controller(&self, dialect: &Dialect, survey: &Survey) -> Controller
+        ensures { result ≡ unwrap_or self.now.controller
+            (controller_by dialect.now (sources_in survey.now)) }
+    {
         let by_log = if survey.has_window || dialect.hides_window {
             Controller::Reported
         } else {
@@ -181,6 +194,8 @@ impl Choices {
     ) -> Result<Options, NoHeader>
         ensures first { IfOk result (λ options. self.now.format ≡ formats.One
             → is_reported options.controller ≡ false) }
+        ensures asks { IfOk result (λ options. Asks self.now.format self.now dialect.now
+            (sources_in survey.now) (options_in self.now.format options)) }
         ensures says_more { OnOk result ((g : AGuess) → will_say writing.old g ≡ true
             → will_say writing.new g ≡ true) }
         ensures told { OnOk result (told_in writing.new ≡ told_in writing.old) }
@@ -214,7 +229,13 @@ impl Choices {
         controller: Controller,
         dialect: &Dialect,
         survey: &Survey,
-    ) -> Options {
+    ) -> Options
+        requires { controller ≡ unwrap_or self.now.controller
+            (controller_by dialect.now (sources_in survey.now)) }
+        ensures allowed { IsAllowed self.now dialect.now options
+            → IsAllowed self.now dialect.now result }
+        ensures chosen { IsChosen self.now dialect.now (sources_in survey.now) result }
+    {
         let may = dialect.may_spare && controller == Controller::Reported;
         let by_order = dialect.recovery_by_order || survey.has_milliseconds;
         let overshoot = self.window_overshoot.unwrap_or(dialect.window_overshoot);
@@ -257,13 +278,14 @@ impl Choices {
         survey: &Survey,
         writing: &mut Writing,
     ) -> Result<Header, NoHeader>
+        requires { writing.old.output.unit ≡ unit_of self.now dialect.now (sources_in survey.now) }
         ensures says_more { OnOk result ((g : AGuess) → will_say writing.old g ≡ true
             → will_say writing.new g ≡ true) }
         ensures told { OnOk result (told_in writing.new ≡ told_in writing.old) }
         ensures unit { OnOk result (writing.new.output.unit ≡ writing.old.output.unit) }
-        ensures header { IfOk result (λ header. header.unit ≡ writing.old.output.unit) }
-        ensures says { IfOk result (HeaderSays role self.now.format dialect.now
-            (sources_in survey.now) survey.now.retry (will_say writing.new)) }
+        ensures role { IfOk result (λ header. header.role ≡ role) }
+        ensures says { IfOk result (HeaderSays self.now dialect.now (sources_in survey.now)
+            (will_say writing.new)) }
     {
         let unit = writing.output.unit;
         let options = self.options(dialect, survey, writing)?;
@@ -288,8 +310,9 @@ impl Choices {
         values: ConnectionValues,
         options: Options,
     ) -> Result<Header, RangeFault>
-        ensures { (self.now.format ≡ formats.One → is_reported options.controller ≡ false)
-            → IfOk result (Keeps unit values options.controller) }
+        requires unit { self.now.format ≡ formats.Three ⊎ unit ≡ Microseconds }
+        requires fits { self.now.format ≡ formats.Two → fit_version_two options ≡ true }
+        ensures { IfOk result (Keeps self.now.format unit values options) }
     {
         let header = Header::in_unit(unit, values)?;
         match self.format {
@@ -301,7 +324,9 @@ impl Choices {
 }
 
 /// The packet threshold that the log says, if a header can say it, else that of the dialect.
-fn threshold_of(dialect: &Dialect, survey: &Survey) -> u64 {
+fn threshold_of(dialect: &Dialect, survey: &Survey) -> u64
+    ensures { result ≡ threshold_by dialect.now (sources_in survey.now) }
+{
     match survey.recovery.packet_threshold {
         Some(threshold) if 3 <= threshold && threshold <= 65_535 => threshold,
         _ => dialect.packet_threshold,
@@ -310,7 +335,9 @@ fn threshold_of(dialect: &Dialect, survey: &Survey) -> u64 {
 
 /// The time threshold in eighths that the log says, if a header can say it, else that of the
 /// dialect.
-fn eighths_of(dialect: &Dialect, survey: &Survey) -> u64 {
+fn eighths_of(dialect: &Dialect, survey: &Survey) -> u64
+    ensures { result ≡ eighths_by dialect.now (sources_in survey.now) }
+{
     let Some(threshold) = survey.recovery.time_threshold else {
         return dialect.time_threshold_eighths;
     };
@@ -324,7 +351,9 @@ fn eighths_of(dialect: &Dialect, survey: &Survey) -> u64 {
 
 /// Whether a time threshold in millionths is another than this many eighths, however a log rounds
 /// it.
-pub(crate) fn is_other(threshold: u64, eighths: u64) -> bool {
+pub(crate) fn is_other(threshold: u64, eighths: u64) -> bool
+    ensures { eighths ≤ max_time_threshold_eighths → result ≡ an_is_other threshold eighths }
+{
     let here = threshold.saturating_mul(8);
     let there = eighths.saturating_mul(MILLIONTHS);
     let off = if here < there {
@@ -345,6 +374,7 @@ fn limit_of(
         → will_say writing.new g ≡ true) }
     ensures told { OnOk result (told_in writing.new ≡ told_in writing.old) }
     ensures unit { OnOk result (writing.new.output.unit ≡ writing.old.output.unit) }
+    ensures late { IfOk result (λ (late : Option ℕ). IsLate None dialect.now.timer_late_us late) }
 {
     let by_packets = dialect.probes_by_ping || dialect.probes_by_room || dialect.probes_by_trigger;
     let logs_timers = dialect.logs_timers.unwrap_or(false) || survey.has_timers;
@@ -427,7 +457,7 @@ fn initial_rtt_of(
     ensures told { OnOk result (told_in writing.new ≡ told_in writing.old) }
     ensures unit { OnOk result (writing.new.output.unit ≡ writing.old.output.unit) }
     ensures rtt { IfOk result (λ (rtt : Option ℕ). IsInitialRtt writing.old.output.unit
-        (a_not_zero (rtt_said survey.now.retry survey.now.recovery.initial_rtt))
+        (a_not_zero (rtt_said (sources_in survey.now)))
         dialect.now.initial_rtt survey.now.first_smoothed (will_say writing.new)
         (rtt_or_default writing.old.output.unit rtt)) }
 {

@@ -1,11 +1,17 @@
 //! The first reading of a log: what has to be known before the first line is written.
-ghost use Rattle.std.specs.Prelude.{◌≡◌, ◌||◌, OnOk, false, true};
+ghost use Rattle.std.specs.Prelude.{◌≡◌, ◌||◌, List, OnOk, Option, ℕ, false, option_map, true};
+ghost use Rattle.json.specs.Json.{Json};
+ghost use Rattle.json.specs.Find.{Finds};
 ghost use Rattle.qa_convert.specs.Groups.{has_some};
 ghost use Rattle.qa_convert.specs.Guesses.{is_of_datagram};
-ghost use Rattle.qa_convert.specs.Orders.{is_received};
-ghost use Rattle.qa_convert.specs.Sources.{both_said, both_set, exponent_of, has_acks, no_sources};
-ghost use Rattle.qa_convert.specs.Sources.{not_zero as a_not_zero, reported, reported_first};
-ghost use Rattle.qa_convert.specs.Sources.{rtt_said, sources_by, sources_in};
+ghost use Rattle.qa_convert.specs.Orders.{is_received, is_sent};
+ghost use Rattle.qa_convert.specs.Sources.{both_said, both_set, came, destined, exponent_of};
+ghost use Rattle.qa_convert.specs.Sources.{has_acks, is_elsewhere as an_is_elsewhere, no_sources};
+ghost use Rattle.qa_convert.specs.Sources.{none_set, not_zero as a_not_zero, numbered, reported};
+ghost use Rattle.qa_convert.specs.Sources.{reported_first, rtt_said, said_by, sources_by};
+ghost use Rattle.qa_convert.specs.Sources.{sources_in, timed};
+ghost use Rattle.qa_qlog.specs.Lengths.{destination as a_destination};
+ghost use Rattle.qa_convert.specs.declared.event.At.{At as AnAt};
 ghost use Rattle.qa_convert.specs.declared.event.Said.TheVariants as a_said;
 
 use crate::dialects::Dialect;
@@ -139,7 +145,7 @@ pub(crate) struct Survey {
 impl Survey {
     /// Before the first event of an endpoint. Takes no memory.
     pub(crate) fn new(alloc: Global, dialect: &Dialect, role: Role) -> Survey
-        ensures { sources_in result ≡ no_sources }
+        ensures { sources_in result ≡ no_sources role }
     {
         let none = PerSpace {
             initial: None,
@@ -206,8 +212,9 @@ impl Survey {
         event: &LoggedEvent,
         said: &Packet<'_, '_>,
     ) -> Result<(), NoEvent>
-        ensures { OnOk result (sources_in self.new
-            ≡ sources_by event.now.said (sources_in self.old)) }
+        ensures { (h d : Option Json) → Finds said.now.header h → Finds said.now.object d
+            → OnOk result (sources_in self.new
+            ≡ sources_by (a_destination h d) event.now (sources_in self.old)) }
     {
         self.see_time(event.at.time);
         let is_looked_at = self.looking.goes_on();
@@ -241,7 +248,7 @@ impl Survey {
 
     /// Looks at a time.
     fn see_time(&mut self, time: u64)
-        ensures { sources_in self.new ≡ sources_in self.old }
+        ensures { sources_in self.new ≡ timed time (sources_in self.old) }
     {
         if time % MILLISECOND != 0 {
             self.has_milliseconds = false;
@@ -253,8 +260,9 @@ impl Survey {
 
     /// Looks at an event that is no packet of a space.
     fn see_other(&mut self, at: At, said: &Said)
-        ensures { is_received said.now ≡ false
-            → sources_in self.new ≡ sources_by said.now (sources_in self.old) }
+        ensures { is_sent said.now ≡ false → is_received said.now ≡ false
+            → (to : Option (List ℕ))
+            → sources_in self.new ≡ said_by said.now at to (sources_in self.old) }
     {
         match said {
             Said::OtherSent => self.is_behind_timer = false,
@@ -275,8 +283,8 @@ impl Survey {
 
     /// Looks at parameters of recovery.
     fn see_recovery(&mut self, parameters: RecoveryParameters)
-        ensures { sources_in self.new
-            ≡ sources_by (a_said.Recovery parameters) (sources_in self.old) }
+        ensures { (at : AnAt) → (to : Option (List ℕ)) → sources_in self.new
+            ≡ said_by (a_said.Recovery parameters) at to (sources_in self.old) }
     {
         self.recovery = parameters.behind(self.recovery);
         if parameters.initial_rtt.is_none() {
@@ -308,7 +316,7 @@ impl Survey {
     /// Looks at a packet of no space that came. A client takes in one Retry at most (RFC 9000,
     /// section 17.2.5.2).
     fn see_other_received(&mut self, at: At, is_retry: bool)
-        ensures { sources_in self.new ≡ sources_in self.old }
+        ensures { sources_in self.new ≡ came self.old.role is_retry at (sources_in self.old) }
     {
         self.is_behind_timer = false;
         if is_retry && self.role == Role::Client && self.retry.is_none() {
@@ -329,7 +337,7 @@ impl Survey {
         packet: &LoggedPacket,
         said: &Packet<'_, '_>,
     ) -> Result<PacketSize, NoEvent>
-        ensures { sources_in self.new ≡ sources_in self.old }
+        ensures { sources_in self.new ≡ numbered packet.now (sources_in self.old) }
     {
         *self.last_numbers.of_mut(packet.space) = Some(packet.number.get());
         self.sent_frames.see(said);
@@ -370,7 +378,9 @@ impl Survey {
         packet: &LoggedPacket,
         said: &Packet<'_, '_>,
     ) -> Result<(), AllocError>
-        ensures { sources_in self.new ≡ sources_in self.old }
+        ensures { (h d : Option Json) → Finds said.now.header h → Finds said.now.object d
+            → OnOk result (sources_in self.new ≡ destined self.old.role packet.now.space
+            self.old.has_received at (a_destination h d) (sources_in self.old)) }
     {
         if packet.space != Space::Initial || self.role != Role::Client || self.has_received {
             return Ok(());
@@ -393,7 +403,10 @@ impl Survey {
     }
 
     /// Whether a destination is another than that of the packet before, which had one.
-    fn is_elsewhere(&self, found: Option<&str>) -> bool {
+    fn is_elsewhere(&self, found: Option<&str>) -> bool
+        ensures { result ≡ an_is_elsewhere (sources_in self.now).destination
+            (option_map (λ s. s.now) found.entry) }
+    {
         match (&self.destination, found) {
             (Some(before), Some(text)) => before.as_str() != text,
             (Some(_), None) => true,
@@ -404,6 +417,7 @@ impl Survey {
     /// Looks at a packet that came.
     fn see_received(&mut self, at: At, packet: &LoggedPacket, said: &Packet<'_, '_>)
         ensures { sources_in self.new ≡ record (sources_in self.old) {
+          has_received = true;
           has_ack = self.old.has_ack || has_acks packet.now;
         } }
     {
@@ -488,9 +502,10 @@ impl Survey {
         self.has_milliseconds && self.looking.samples.cut != 0
     }
 
-    /// The round-trip time before a sample that the log says, in nanoseconds.
+    /// The round-trip time before a sample, in nanoseconds: that of the parameters of recovery, or
+    /// of a Retry that is not logged.
     pub(crate) fn initial_rtt(&self) -> Option<u64>
-        ensures { result ≡ rtt_said self.now.retry self.now.recovery.initial_rtt }
+        ensures { result ≡ rtt_said (sources_in self.now) }
     {
         match self.retry {
             Some(retry) => retry.rtt.or(self.recovery.initial_rtt),
@@ -597,7 +612,7 @@ impl PeerParameters {
 impl RecoveryParameters {
     /// None.
     fn none() -> RecoveryParameters
-        ensures { result ≡ no_sources.recovery }
+        ensures { result ≡ none_set }
     {
         RecoveryParameters {
             initial_rtt: None,

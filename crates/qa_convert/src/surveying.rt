@@ -2,13 +2,15 @@
 ghost use Rattle.std.specs.Prelude.{◌≡◌, IfOk, List, None, OnOk, Option, Some};
 ghost use Rattle.json.specs.Json.{Json, document};
 ghost use Rattle.json.specs.Find.{BeginsWith, Finds};
+ghost use Rattle.qa_base.specs.declared.space.Role.{Role as ARole};
 ghost use Rattle.qa_convert.specs.Connections.{none_named, numbering_of};
 ghost use Rattle.qa_convert.specs.Reading.{Reads, SaysAll, SaysLosses, at_of, clock_before};
-ghost use Rattle.qa_convert.specs.Reading.{next_index};
-ghost use Rattle.qa_convert.specs.Sources.{no_sources, sources_after, sources_in};
+ghost use Rattle.qa_convert.specs.Reading.{events_at, next_index};
+ghost use Rattle.qa_convert.specs.Sources.{destination_of, no_sources, sources_after, sources_in};
 ghost use Rattle.qa_convert.specs.Surveying.{Surveys, passed_over};
 ghost use Rattle.qa_convert.specs.Surveying.{surveyed_by, unread};
 ghost use Rattle.qa_convert.specs.declared.event.Said.{Said as ASaid};
+ghost use Rattle.qa_qlog.specs.Lengths.{destination as a_destination};
 
 use crate::clock::Clock;
 use crate::connections::Connections;
@@ -151,7 +153,8 @@ pub(crate) struct Surveying {
 impl Surveying {
     /// Before the first record of a log.
     pub(crate) fn new(alloc: Global, head: Head, chosen: u64, survey: Survey) -> Surveying
-        ensures { sources_in survey ≡ no_sources → surveyed_by result ≡ unread head chosen }
+        ensures { (role : ARole) → sources_in survey ≡ no_sources role
+            → surveyed_by result ≡ unread head chosen role }
     {
         let cursor = Cursor::new(alloc, &head, chosen);
         Surveying {
@@ -170,7 +173,7 @@ impl Surveying {
         place: Place,
     ) -> Result<(), NoRecord>
         ensures { OnOk result ((j : Json) × (document text.now ≡ Some j)
-            × Surveys j (surveyed_by self.old) (surveyed_by self.new)) }
+            × Surveys j place (surveyed_by self.old) (surveyed_by self.new)) }
     {
         let Ok(text) = str::from_utf8(text) else {
             return Err(NoRecord::NotJson);
@@ -192,7 +195,7 @@ impl Surveying {
     /// Looks at the next record.
     fn see(&mut self, record: &Element<'_, '_>, place: Place) -> Result<(), NoRecord>
         ensures { (j : Json) → BeginsWith record.now j
-            → OnOk result (Surveys j (surveyed_by self.old) (surveyed_by self.new)) }
+            → OnOk result (Surveys j place (surveyed_by self.old) (surveyed_by self.new)) }
     {
         match self.cursor.next(&self.head, record, place)? {
             Some(named) => self.see_event(named),
@@ -204,13 +207,14 @@ impl Surveying {
     fn see_event(&mut self, event: Named<'_, '_>) -> Result<(), NoRecord>
         ensures says { (d : Option Json) → Finds event.entry.object d
             → OnOk result ((all : List ASaid) × SaysAll self.old.head.unit event.entry.name d all
-            × (sources_in self.new.survey ≡ sources_after all (sources_in self.old.survey))) }
+            × (sources_in self.new.survey ≡ sources_after (destination_of d)
+            (events_at event.entry.at all) (sources_in self.old.survey))) }
         ensures head { self.new.head ≡ self.old.head }
         ensures cursor { self.new.cursor ≡ self.old.cursor }
     {
         let Named { name, at, object } = event;
         if name == EventName::PacketsLost {
-            return self.see_losses(&object, at);
+            return self.see_losses(object, at);
         }
         let packet = Packet::of(object);
         let said = Said::of(self.alloc, name, &packet, self.head.unit)?;
@@ -220,27 +224,31 @@ impl Surveying {
     }
 
     /// Looks at the losses that a record names, whose data is this object.
-    fn see_losses(&mut self, object: &Option<Element<'_, '_>>, at: At) -> Result<(), NoRecord>
-        ensures says { (d : Option Json) → Finds object.now d → OnOk result ((all : List ASaid)
+    fn see_losses(&mut self, object: Option<Element<'_, '_>>, at: At) -> Result<(), NoRecord>
+        ensures says { (d : Option Json) → Finds object.entry d → OnOk result ((all : List ASaid)
             × SaysLosses d all
-            × (sources_in self.new.survey ≡ sources_after all (sources_in self.old.survey))) }
+            × (sources_in self.new.survey ≡ sources_after (destination_of d) (events_at at all)
+            (sources_in self.old.survey))) }
         ensures head { self.new.head ≡ self.old.head }
         ensures cursor { self.new.cursor ≡ self.old.cursor }
     {
-        let losses = losses_of(self.alloc, object)?;
-        self.see_all(losses, at)
+        let losses = losses_of(self.alloc, &object)?;
+        let packet = Packet::of(object);
+        self.see_all(losses, at, &packet)
     }
 
-    /// Looks at events, one after another, whose record is there.
-    fn see_all(&mut self, all: Vec<Said>, at: At) -> Result<(), NoRecord>
-        ensures sources { OnOk result (sources_in self.new.survey
-            ≡ sources_after all.items (sources_in self.old.survey)) }
+    /// Looks at events, one after another, whose record is there, and what it says of a packet.
+    fn see_all(&mut self, all: Vec<Said>, at: At, packet: &Packet<'_, '_>) -> Result<(), NoRecord>
+        ensures sources { (h d : Option Json) → Finds packet.now.header h
+            → Finds packet.now.object d → OnOk result (sources_in self.new.survey
+            ≡ sources_after (a_destination h d) (events_at at all.items)
+            (sources_in self.old.survey)) }
         ensures head { self.new.head ≡ self.old.head }
         ensures cursor { self.new.cursor ≡ self.old.cursor }
     {
         for said in all {
             let event = LoggedEvent { at, said };
-            self.survey.see(self.alloc, &event, &Packet::of(None))?;
+            self.survey.see(self.alloc, &event, packet)?;
         }
         Ok(())
     }

@@ -112,7 +112,7 @@ impl Model for FirstReading {
 impl FirstReading {
     /// Before the first record of a log with this head.
     pub fn new(alloc: Global, head: Head, asked: Asked) -> FirstReading
-        ensures { result ≡ (asked, unread head asked.connection) }
+        ensures { result ≡ (asked, unread head asked.connection asked.role) }
     {
         let survey = Survey::new(alloc, &asked.dialect, asked.role);
         let surveying = Surveying::new(alloc, head, asked.connection, survey);
@@ -129,7 +129,7 @@ impl FirstReading {
     pub fn push(&mut self, text: &[u8], place: Place) -> Result<(), NoRecord>
         ensures asked { self.new.0 ≡ self.old.0 }
         ensures surveys { OnOk result ((j : Json) × (document text.now ≡ Some j)
-            × Surveys j self.old.1 self.new.1) }
+            × Surveys j place self.old.1 self.new.1) }
     {
         let result = self.surveying.push(&mut self.room, text, place);
         self.room.clear();
@@ -144,7 +144,9 @@ impl FirstReading {
     }
 
     /// How many connections and paths the records have named so far; 0 if they name none.
-    pub fn connections(&self) -> u64 {
+    pub fn connections(&self) -> u64
+        ensures { result ≡ self.now.1.connections.count }
+    {
         self.surveying.cursor.connections.count
     }
 
@@ -153,7 +155,7 @@ impl FirstReading {
         ensures begins { IfOk result (λ second. Begins head self.0.connection self.0.dialect
             self.1.sources second.2) }
         ensures header { IfOk result (λ second. IsHeaderOf self.0 self.1.sources
-            second.2.retry second.2.rules.decoding.unit second.0) }
+            second.2.rules.decoding.unit second.0) }
         ensures told { IfOk result (λ second. told second.1 ≡ nothing) }
     {
         let FirstReading {

@@ -72,7 +72,8 @@ pub(crate) struct Writing {
 impl Writing {
     /// Before the first line. Takes no memory.
     pub(crate) fn new(alloc: Global, unit: TimeUnit, has_places: bool) -> Writing
-        ensures { told_in result ≡ nothing }
+        ensures told { told_in result ≡ nothing }
+        ensures unit { result.output.unit ≡ unit }
     {
         Writing {
             alloc,

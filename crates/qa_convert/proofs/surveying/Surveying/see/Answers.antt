@@ -4,8 +4,8 @@ use Rattle.qa_qlog.specs.Records.{data_of}
 use Rattle.qa_convert.proofs.Read.{says_none, says_some}
 use Rattle.qa_convert.proofs.Surveyed.{same_survey}
 use Rattle.qa_convert.specs.Connections.{numbering_of}
-use Rattle.qa_convert.specs.Reading.{at_of, chosen_only, clock_after, connections_after, name_of, next_index}
-use Rattle.qa_convert.specs.Sources.{sources_after, sources_in}
+use Rattle.qa_convert.specs.Reading.{at_of, chosen_only, clock_after, connections_after, events_at, name_of, next_index}
+use Rattle.qa_convert.specs.Sources.{destination_of, sources_after, sources_in}
 use Rattle.qa_convert.proofs.surveying.Surveying.see.Goals as goal
 
 pub returns-in-Some : goal.returns-in-Some
@@ -24,7 +24,7 @@ returns-in-Some c j begins =
       all = given.0;
       are = says_some old.head j (chosen_only old.head j (numbering_of old.cursor.connections) (name_of reads.event)) c.in-Some.named.name given.0 finds.0 given.1;
       is = same_survey new old.head (clock_after old.cursor.clock reads.event) (connections_after old.head j (name_of reads.event) (numbering_of old.cursor.connections))
-          (next_index old.cursor.index) (sources_after given.0 (sources_in old.survey)) c.see_event.ensures.head clock connections index given.2;
+          (next_index old.cursor.index) (sources_after (destination_of (data_of old.head.fields j)) (events_at (at_of c.args.place old.cursor.index old.cursor.clock reads.event) given.0) (sources_in old.survey)) c.see_event.ensures.head clock connections index (rw finds.1 at given.2);
     })
     (c.see_event.ensures.says (data_of old.head.fields j) finds.2)
 

@@ -1,4 +1,5 @@
 use Rattle.std.proofs.Common.{◌≡◌, ◌∙◌, ◌∷◌, [], true, false, inl, sym}
+use Rattle.qa_qlog.specs.Packets.{header_of}
 use Rattle.qa_qlog.specs.declared.names.EventName.TheVariants as name
 use Rattle.qa_convert.proofs.Read.{says_one}
 use Rattle.qa_convert.proofs.surveying.Surveying.see_event.Goals as goal
@@ -14,5 +15,5 @@ returns-clause-says c d finds =
     cc in (
       s ∷ [],
       says_one c.args.self.now.head.unit event.name d s other (inl (c.in_ok-said.ensures d packet.0 packet.1)),
-      c.in_ok-see.ensures,
+      c.in_ok-see.ensures (header_of d) d packet.1 packet.0,
     )

@@ -6,5 +6,5 @@ nothing_told : told [] ≡ nothing
 unfolding told
 nothing_told = refl
 
-pub returns : goal.returns
-returns c = ap told c.new.ensures.text ∙ nothing_told
+pub returns-clause-told : goal.returns-clause-told
+returns-clause-told c = ap told c.new.ensures.text ∙ nothing_told
