@@ -27,7 +27,7 @@ one_line d s a l false is = tt
 
 -- the line of one frame
 pub one_added : (d : Decoding) (s : Space) (a : LoggedAck) (m : Marks) (x : Ack) (t u : Told) → x.space ≡ s → x.ranges ≡ a.ranges
-    → (d.has_cut_times ≡ false → x.delay ≡ in_unit d.unit (decoded d s a)) → (is_by_state d.limited ≡ false → says_limited x.app_limited m ≡ true)
+    → (d.has_cut_times ≡ false → x.delay ≡ in_unit d.unit (decoded d s a)) → ((is_by_state d.limited && d.is_limited) ≡ false → says_limited x.app_limited m ≡ true)
     → u.acks ≡ t.acks ++ lines_of m x → AddsAcks d s (a ∷ []) t u
 one_added d s a m x t u space ranges delay limited told =
     let is : IsLineOfAck d s a (ack_line m x) = record { space = space; ranges = ranges; delay = delay; limited = limited } in

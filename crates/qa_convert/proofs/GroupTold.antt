@@ -1,15 +1,16 @@
 -- What the lines of groups tell, one group behind another.
-use Rattle.std.proofs.Common.{◌≡◌, ◌∙◌, ◌++◌, Bool, List, [], ◌∷◌, append-nil, append_assoc, ap, arith, inl, inr, refl, sym}
+use Rattle.std.proofs.Common.{◌≡◌, ◌∙◌, ◌++◌, Bool, List, [], ◌∷◌, append-nil, append_assoc, ap, arith, inl, inr, refl, sym, take}
 use Rattle.std.proofs.lemmas.Grind.{flat_map-append}
 use Rattle.qa_base.specs.declared.per_space.PerSpace.{PerSpace}
 use Rattle.qa_convert.proofs.Losses.{leaves_more, leaves_then, names_only, only_none}
 use Rattle.qa_convert.proofs.Keyed.{both_keys, tells_no_keys}
 use Rattle.qa_convert.proofs.Sent.{lines_then, sized_and}
 use Rattle.qa_convert.specs.AckDelays.{AddsAllOrNone, Answers}
-use Rattle.qa_convert.specs.GroupLines.{AreAcked, TellsAcks, TellsOf, TellsSent, come_in, come_of, lost_by, lost_in_front, lost_of}
+use Rattle.qa_convert.specs.GroupLines.{AreAcked, AreOfGroup, AreOfPacket, TellsAcks, TellsOf, TellsSent, lost_by, lost_in_front, lost_of}
 use Rattle.qa_convert.specs.Losing.{Declares, NamesOnly, lost_in, packets_of}
 use Rattle.qa_convert.specs.KeyLines.{TellsKeys, keys_in}
 use Rattle.qa_convert.specs.Rules.{Rules, rules_after}
+use Rattle.qa_convert.specs.States.{decoding_after, stated, stated_in}
 use Rattle.qa_convert.specs.Telling.{AckLine, AreLinesOf, Retired, SentLine, TimerLine, Told, Writes, sent_in, sent_of, sized}
 use Rattle.qa_convert.specs.Timers.{AddsTimers, AreExpired, Expires, expired_in, expired_of}
 use Rattle.qa_convert.specs.declared.bare.Bare.{Bare}
@@ -48,23 +49,24 @@ sent_one s g retired (about.Lost ls) before after same = ([], no_sent before aft
 sent_one s g retired (about.Expired at timer) before after same = ([], no_sent before after same, refl)
 sent_one s g retired (about.Other e) before after same = ([], no_sent before after same, refl)
 
-abbrev AcksOf : Decoding → About → Told → Told → Type 0
-AcksOf d what before after = (lines : List AckLine) × (after.acks ≡ before.acks ++ lines) × AreAcked d (come_in what ++ []) lines
+abbrev AcksOf : Decoding → About → List LoggedEvent → Told → Told → Type 0
+AcksOf d what beside before after = (lines : List AckLine) × (after.acks ≡ before.acks ++ lines) × AreOfGroup d what beside lines
 
 no_acks : (before after : Told) → after.acks ≡ before.acks → after.acks ≡ before.acks ++ []
 no_acks before after same = same ∙ sym (append-nil before.acks)
 
 come_one : (d : Decoding) (p : LoggedPacket) (before after : Told) → AddsAllOrNone d p before after
-    → (lines : List AckLine) × (after.acks ≡ before.acks ++ lines) × AreAcked d (p ∷ []) lines
-come_one d p before after (inl all) = (all.lines, all.told, inr (all.lines, [], sym (append-nil all.lines), all.are, refl))
+    → (lines : List AckLine) × (after.acks ≡ before.acks ++ lines) × AreOfPacket d p lines
+come_one d p before after (inl all) = (all.lines, all.told, inr all.are)
 come_one d p before after (inr none) = ([], no_acks before after none, inl refl)
 
-acks_one : (d : Decoding) (what : About) (before after : Told) → Answers d what before after → AcksOf d what before after
-acks_one d (about.Sent ps) before after same = ([], no_acks before after same, refl)
-acks_one d (about.Received p ls) before after all = come_one d p.packet before after all
-acks_one d (about.Lost ls) before after same = ([], no_acks before after same, refl)
-acks_one d (about.Expired at timer) before after same = ([], no_acks before after same, refl)
-acks_one d (about.Other e) before after same = ([], no_acks before after same, refl)
+acks_one : (d : Decoding) (what : About) (beside : List LoggedEvent) (before after : Told) → Answers d what beside before after → AcksOf d what beside before after
+acks_one d (about.Sent ps) beside before after same = ([], no_acks before after same, refl)
+acks_one d (about.Received p ls) beside before after all =
+    let one = come_one (stated (take all.0 beside) d) p.packet before after all.1 in (one.0, one.1, (all.0, one.2))
+acks_one d (about.Lost ls) beside before after same = ([], no_acks before after same, refl)
+acks_one d (about.Expired at timer) beside before after same = ([], no_acks before after same, refl)
+acks_one d (about.Other e) beside before after same = ([], no_acks before after same, refl)
 
 lost_one : (bare : PerSpace Bare) (what : About) (es : List LoggedEvent) (before after : Told) → Declares bare what es before after
     → NamesOnly (lost_in_front what ++ lost_in es) before after
@@ -85,11 +87,11 @@ timers_one (about.Expired at e) before after adds = adds
 timers_one (about.Other e) before after same = no_timers before after same
 
 pub tells_one : (r : Rules) (bare : PerSpace Bare) (g : Group) (before after : Told) → Writes r.settles r.by_growth r.keys.retired g.about before after
-    → Answers r.decoding g.about before after → Declares bare g.about g.beside.items before after → Expires g.about before after
+    → Answers r.decoding g.about g.beside.items before after → Declares bare g.about g.beside.items before after → Expires g.about before after
     → TellsKeys (keys_in g.about r.keys) before after → TellsOf r (g ∷ []) before after
 tells_one r bare g before after writes acks lost timers keys = record {
   sent = sent_one r.settles r.by_growth r.keys.retired g.about before after writes;
-  acks = acks_one r.decoding g.about before after acks;
+  acks = let one = acks_one r.decoding g.about g.beside.items before after acks in (one.0, one.1, (one.0, [], sym (append-nil one.0), one.2, refl));
   lost = rw (append-nil (lost_by g)) (lost_one bare g.about g.beside.items before after lost);
   timers = timers_one g.about before after timers;
   keys = keys;
@@ -107,21 +109,25 @@ both_sent r gs hs a b c one two =
           (lines_then r.settles r.by_growth (sized (sent_of gs)) (sized (sent_of hs)) ks ls one.2 two.2),
     )
 
-acked_then : (d : Decoding) (ps qs : List LoggedPacket) (ks ls : List AckLine) → AreAcked d ps ks → AreAcked d qs ls → AreAcked d (ps ++ qs) (ks ++ ls)
-acked_then d [] qs ks ls none are = rw none are
-acked_then d (p ∷ ps) qs ks ls (inl left) are = inl (acked_then d ps qs ks ls left are)
-acked_then d (p ∷ ps) qs ks ls (inr all) are =
+acked_then : (d : Decoding) (gs hs : List Group) (ks ls : List AckLine) → AreAcked d gs ks → AreAcked (decoding_after gs d) hs ls → AreAcked d (gs ++ hs) (ks ++ ls)
+acked_then d [] hs ks ls none are = rw none are
+acked_then d (g ∷ gs) hs ks ls all are =
     let first = all.0 in
-    let more = all.1 in
-    inr (first, more ++ ls, ap (λ xs. xs ++ ls) all.2 ∙ append_assoc first more ls, all.3, acked_then d ps qs more ls all.4 are)
+    let more = all.1 in (
+      first,
+      more ++ ls,
+      ap (λ xs. xs ++ ls) all.2 ∙ append_assoc first more ls,
+      all.3,
+      acked_then (stated_in g.about g.beside.items d) gs hs more ls all.4 are,
+    )
 
-both_acked : (d : Decoding) (gs hs : List Group) (a b c : Told) → TellsAcks d gs a b → TellsAcks d hs b c → TellsAcks d (gs ++ hs) a c
+both_acked : (d : Decoding) (gs hs : List Group) (a b c : Told) → TellsAcks d gs a b → TellsAcks (decoding_after gs d) hs b c → TellsAcks d (gs ++ hs) a c
 both_acked d gs hs a b c one two =
     let ks = one.0 in
     let ls = two.0 in (
       ks ++ ls,
       two.1 ∙ ap (λ xs. xs ++ ls) one.1 ∙ append_assoc a.acks ks ls,
-      rw (flat_map-append (λ (g : Group). come_in g.about) gs hs) (acked_then d (come_of gs) (come_of hs) ks ls one.2 two.2),
+      acked_then d gs hs ks ls one.2 two.2,
     )
 
 both_lost : (ps qs : List LostPacket) (a b c : Told) → NamesOnly ps a b → NamesOnly qs b c → NamesOnly (ps ++ qs) a c

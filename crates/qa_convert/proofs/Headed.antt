@@ -147,6 +147,7 @@ begins_like h chosen asked found eighths log p like begins = record {
   is_encoded = begins.is_encoded ∙ ap (λ (d : Dialect). d.delay_is_encoded) like.is;
   exponent = begins.exponent;
   limited = begins.limited ∙ ap (λ (d : Dialect). d.limited) like.is;
+  state = begins.state;
   by_growth = begins.by_growth ∙ ap (λ (d : Dialect). d.sizes_by_growth) like.is;
   keys = begins.keys;
 }

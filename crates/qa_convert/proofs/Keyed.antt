@@ -7,9 +7,11 @@ use Rattle.qa_base.specs.declared.space.Space.{Space}
 use Rattle.qa_base.specs.declared.space.Space.TheVariants.{Initial, Handshake, App}
 use Rattle.qa_base.specs.values.Events.{is_space}
 use Rattle.qa_base.specs.values.PerSpace.{of_space, with_space}
+use Rattle.qa_convert.proofs.Stated.{decoding_then}
 use Rattle.qa_convert.specs.KeyLines.{Discards, OnlyKeys, Retires, TellsKeys, came_by, come_of, gone_by, keys_after, keys_by, keys_in, retired_at}
 use Rattle.qa_convert.specs.Rules.{Rules, rules_after}
 use Rattle.qa_convert.specs.Telling.{AreRetired, HaveCome, KeysTold, KnownKeys, Retired, Sends, Told, gone_told, with_came, with_gone}
+use Rattle.qa_convert.specs.declared.decoding.Decoding.{Decoding}
 use Rattle.qa_convert.specs.declared.event.Said.{Said}
 use Rattle.qa_convert.specs.declared.event.Said.TheVariants as said
 use Rattle.qa_convert.specs.declared.groups.About.{About}
@@ -214,4 +216,4 @@ both_keys gs hs known a b c one two =
     )
 
 pub rules_then : (gs hs : List Group) (r : Rules) → rules_after (gs ++ hs) r ≡ rules_after hs (rules_after gs r)
-rules_then gs hs r = ap (λ (known : KnownKeys). record r { keys = known }) (keys_then gs hs r.keys)
+rules_then gs hs r = ap₂ (λ (d : Decoding) (known : KnownKeys). record r { decoding = d; keys = known }) (decoding_then gs hs r.decoding) (keys_then gs hs r.keys)

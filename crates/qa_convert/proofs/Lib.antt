@@ -24,6 +24,7 @@ pub mod Power
 pub mod Read
 pub mod Sent
 pub mod Spliced
+pub mod Stated
 pub mod Surveyed
 pub mod Texts
 pub mod Timed

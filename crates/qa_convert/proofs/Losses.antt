@@ -137,7 +137,7 @@ pub events_then : (bare : PerSpace Bare) (xs ys : List LoggedEvent) (a b d : Tol
 events_then bare xs ys a b d first second =
     rw (in_flight_and bare xs ys) (names_then (in_flight bare (lost_in xs)) (in_flight bare (lost_in ys)) a b d first second)
 
-front_is : {X : Type 0} (i j : ℕ) (xs : List X) → i ≤ j → take i xs ++ take (j - i) (drop i xs) ≡ take j xs
+pub front_is : {X : Type 0} (i j : ℕ) (xs : List X) → i ≤ j → take i xs ++ take (j - i) (drop i xs) ≡ take j xs
 front_is i j xs order = let j_is : i + (j - i) ≡ j = omega arith in sym (take-add i (j - i) xs) ∙ ap (λ n. take n xs) j_is
 
 -- the losses up to a place, and then those up to a later one

@@ -1,7 +1,7 @@
 -- The lines of the acknowledgments that packets brought: each has the space and the ranges of an
 -- ACK frame, and its delay in the unit of the trace.
-use Rattle.std.specs.Prelude.{◌≡◌, ◌⊎◌, ◌++◌, ◌*◌, ◌-◌, ◌^◌, ℕ, Bool, true, false, List, [], ◌∷◌}
-use Rattle.std.specs.Prelude.{if◌then◌else◌, min}
+use Rattle.std.specs.Prelude.{◌≡◌, ◌⊎◌, ◌++◌, ◌*◌, ◌-◌, ◌^◌, ◌&&◌, ℕ, Bool, true, false, List}
+use Rattle.std.specs.Prelude.{[], ◌∷◌, if◌then◌else◌, min, take}
 use Rattle.std.specs.List.{AllZip, filter}
 use Rattle.qa_base.specs.declared.event.Ack.{Ack}
 use Rattle.qa_base.specs.declared.space.Space.{Space}
@@ -10,11 +10,13 @@ use Rattle.qa_base.specs.values.Events.{has_ranges}
 use Rattle.qa_base.specs.values.PerSpace.{of_space}
 use Rattle.qa_convert.specs.Marks.{Marks}
 use Rattle.qa_convert.specs.Outputs.{in_unit}
+use Rattle.qa_convert.specs.States.{stated}
 use Rattle.qa_convert.specs.Telling.{AckLine, Told, ack_line}
 use Rattle.qa_convert.specs.declared.conversion.Conversion.{Conversion}
 use Rattle.qa_convert.specs.declared.decoding.Decoding.{Decoding}
 use Rattle.qa_convert.specs.declared.dialects.Limited.{Limited}
 use Rattle.qa_convert.specs.declared.dialects.Limited.TheVariants.{ByState}
+use Rattle.qa_convert.specs.declared.event.LoggedEvent.{LoggedEvent}
 use Rattle.qa_convert.specs.declared.groups.About.{About}
 use Rattle.qa_convert.specs.declared.groups.About.TheVariants as about
 use Rattle.qa_convert.specs.declared.handshake.Keys.{Keys}
@@ -41,7 +43,8 @@ decoded d s a = if of_space s d.subtracts then meant d a.delay else 0
 abbrev pub IsDelayOf : Decoding → Space → LoggedAck → ℕ → Type 0
 IsDelayOf d s a delay = d.has_cut_times ≡ false → delay ≡ decoded d s a
 
--- by what the ACK frames of a log are read: its dialect, the peer's exponent, the unit of the trace
+-- by what the ACK frames of a log are read: its dialect, the peer's exponent, the unit of the
+-- trace, and the last state
 abbrev pub decoding_of : Conversion → Decoding
 decoding_of c = record {
   subtracts = c.terms.dialect.subtracts_delay;
@@ -50,6 +53,7 @@ decoding_of c = record {
   unit = c.writing.output.unit;
   has_cut_times = c.known.has_cut_times;
   limited = c.terms.dialect.limited;
+  is_limited = c.is_app_limited;
 }
 
 -- the log says by itself that the sender had not used its window (RFC 9002, section 7.8)
@@ -60,12 +64,12 @@ is_by_state _ = false
 -- ---- the lines of frames
 
 -- a line says the space, the ranges and the delay of an ACK frame; the delay may be another one if
--- times are cut; that the window was not used is said to be a guess, unless the log says it
+-- times are cut; that the window was not used is said to be a guess, unless the state says it
 pub record IsLineOfAck (d : Decoding) (s : Space) (a : LoggedAck) (l : AckLine) : Type 0 where
   pub space : l.space ≡ s
   pub ranges : l.ranges ≡ a.ranges
   pub delay : d.has_cut_times ≡ false → l.delay ≡ in_unit d.unit (decoded d s a)
-  pub limited : is_by_state d.limited ≡ false → l.says_limited ≡ true
+  pub limited : (is_by_state d.limited && d.is_limited) ≡ false → l.says_limited ≡ true
 
 -- the frames that name a packet: others have no line
 abbrev pub naming : List LoggedAck → List LoggedAck
@@ -103,7 +107,9 @@ abbrev pub AddsAllOrNone : Decoding → LoggedPacket → Told → Told → Type 
 AddsAllOrNone d p before after =
     AddsAcks d p.space p.acks.items before after ⊎ (after.acks ≡ before.acks)
 
--- what a group adds to the lines of acknowledgments: only a packet that came adds any
-abbrev pub Answers : Decoding → About → Told → Told → Type 0
-Answers d (about.Received p ls) before after = AddsAllOrNone d p.packet before after
-Answers d _ before after = after.acks ≡ before.acks
+-- what a group adds to the lines of acknowledgments: only a packet that came adds any, by the last
+-- state before it, or by one that is said beside it
+abbrev pub Answers : Decoding → About → List LoggedEvent → Told → Told → Type 0
+Answers d (about.Received p ls) beside before after =
+    (n : ℕ) × AddsAllOrNone (stated (take n beside) d) p.packet before after
+Answers d _ beside before after = after.acks ≡ before.acks

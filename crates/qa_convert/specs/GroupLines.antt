@@ -1,14 +1,16 @@
 -- What the lines of groups tell: of packets that were sent, of acknowledgments that came, of
 -- packets that were declared lost, of timers that expired, and of keys.
-use Rattle.std.specs.Prelude.{◌≡◌, ◌⊎◌, ◌++◌, List, [], ◌∷◌, flat_map}
+use Rattle.std.specs.Prelude.{◌≡◌, ◌⊎◌, ◌++◌, ℕ, List, [], ◌∷◌, flat_map, take}
 use Rattle.std.specs.List.{AllZip}
 use Rattle.qa_convert.specs.AckDelays.{IsLineOfAck, naming}
 use Rattle.qa_convert.specs.Losing.{NamesOnly, lost_in, packets_of}
 use Rattle.qa_convert.specs.KeyLines.{TellsKeys, keys_after}
 use Rattle.qa_convert.specs.Rules.{Rules}
+use Rattle.qa_convert.specs.States.{stated, stated_in}
 use Rattle.qa_convert.specs.Timers.{AddsTimers, expired_of}
 use Rattle.qa_convert.specs.Telling.{AckLine, AreLinesOf, SentLine, Told, sent_of, sized}
 use Rattle.qa_convert.specs.declared.decoding.Decoding.{Decoding}
+use Rattle.qa_convert.specs.declared.event.LoggedEvent.{LoggedEvent}
 use Rattle.qa_convert.specs.declared.event.LostPacket.{LostPacket}
 use Rattle.qa_convert.specs.declared.groups.About.{About}
 use Rattle.qa_convert.specs.declared.groups.About.TheVariants as about
@@ -26,27 +28,31 @@ TellsSent r gs before after =
 
 -- ---- acknowledgments that came
 
-abbrev pub come_in : About → List LoggedPacket
-come_in (about.Received p ls) = p.packet ∷ []
-come_in _ = []
+-- the lines of the ACK frames of a packet, in their order, each with the space, the ranges and the
+-- delay: those of all frames that name packets, or none, since the keys of its space are gone
+abbrev pub AreOfPacket : Decoding → LoggedPacket → List AckLine → Type 0
+AreOfPacket d p lines =
+    (lines ≡ []) ⊎ AllZip (IsLineOfAck d p.space) (naming p.acks.items) lines
 
-abbrev pub come_of : List Group → List LoggedPacket
-come_of gs = flat_map (λ g. come_in g.about) gs
+-- those of a group: a packet that came has some, by the last state before it, or by one that is
+-- said beside it
+abbrev pub AreOfGroup : Decoding → About → List LoggedEvent → List AckLine → Type 0
+AreOfGroup d (about.Received p ls) beside lines =
+    (n : ℕ) × AreOfPacket (stated (take n beside) d) p.packet lines
+AreOfGroup d _ beside lines = lines ≡ []
 
--- the lines of the ACK frames of packets, in their order, each with the space, the ranges and the
--- delay: of each packet those of all frames that name packets, or none, since the keys of its space
--- are gone by then
-abbrev pub AreAcked : Decoding → List LoggedPacket → List AckLine → Type 0
+-- those of groups, in their order
+abbrev pub AreAcked : Decoding → List Group → List AckLine → Type 0
 AreAcked d [] lines = lines ≡ []
-AreAcked d (p ∷ ps) lines =
-    AreAcked d ps lines
-    ⊎ ((first : List AckLine) × (more : List AckLine) × (lines ≡ first ++ more)
-    × AllZip (IsLineOfAck d p.space) (naming p.acks.items) first × AreAcked d ps more)
+AreAcked d (g ∷ gs) lines =
+    (first : List AckLine) × (more : List AckLine) × (lines ≡ first ++ more)
+    × AreOfGroup d g.about g.beside.items first
+    × AreAcked (stated_in g.about g.beside.items d) gs more
 
 -- these lines were written of acknowledgments, and no others
 abbrev pub TellsAcks : Decoding → List Group → Told → Told → Type 0
 TellsAcks d gs before after =
-    (lines : List AckLine) × (after.acks ≡ before.acks ++ lines) × AreAcked d (come_of gs) lines
+    (lines : List AckLine) × (after.acks ≡ before.acks ++ lines) × AreAcked d gs lines
 
 -- ---- packets that were declared lost
 

@@ -24,6 +24,7 @@ pub mod Rules
 pub mod Said
 pub mod Sending
 pub mod Sources
+pub mod States
 pub mod Surveying
 pub mod Taking
 pub mod Telling

@@ -1,6 +1,6 @@
 -- Records that are read one after another, and the events of them that go on: each joins those that
 -- wait for their order.
-use Rattle.std.specs.Prelude.{◌≡◌, ℕ, Bool, List, [], ◌∷◌, flat_map, Option, None, Ok}
+use Rattle.std.specs.Prelude.{◌≡◌, ℕ, Bool, false, List, [], ◌∷◌, flat_map, Option, None, Ok}
 use Rattle.std.specs.Prelude.{if◌then◌else◌}
 use Rattle.json.specs.Json.{Json}
 use Rattle.qa_qlog.specs.Records.{event_of}
@@ -55,7 +55,7 @@ progress_of c = record {
 
 -- no record is read, the connection of this number is converted, behind the Retry that the log
 -- shows; delays, sizes, reports and limits are read as this dialect and what the log says of the
--- peer say; and nothing is told of keys
+-- peer say; and nothing is told of keys and of the state
 pub record Begins (h : Head) (chosen : ℕ) (d : Dialect) (said : Sources) (p : Progress)
     : Type 0 where
   pub head : p.head ≡ h
@@ -70,6 +70,7 @@ pub record Begins (h : Head) (chosen : ℕ) (d : Dialect) (said : Sources) (p : 
   pub is_encoded : p.rules.decoding.is_encoded ≡ d.delay_is_encoded
   pub exponent : p.rules.decoding.exponent ≡ exponent_of said
   pub limited : p.rules.decoding.limited ≡ d.limited
+  pub state : p.rules.decoding.is_limited ≡ false
   pub by_growth : p.rules.by_growth ≡ d.sizes_by_growth
   pub keys : p.rules.keys ≡ no_keys
 

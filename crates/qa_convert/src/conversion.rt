@@ -1,13 +1,14 @@
 //! The second reading of a log: the lines of its events.
-ghost use Rattle.std.specs.Prelude.{◌≡◌, IfOk, OnOk, false, true};
+ghost use Rattle.std.specs.Prelude.{◌≡◌, ◌&&◌, ◌∷◌, [], IfOk, OnOk, false, true};
 ghost use Rattle.qa_convert.specs.AckDelays.{Answers, decoding_of, is_by_state};
 ghost use Rattle.qa_convert.specs.Losing.{Declares};
 ghost use Rattle.qa_convert.specs.KeyLines.{OnlyKeys, TellsKeys, keys_by, keys_in, known_by, no_keys};
-ghost use Rattle.qa_convert.specs.Rules.{rules_behind, rules_by, rules_of};
+ghost use Rattle.qa_convert.specs.Rules.{rules_behind, rules_by, rules_of, rules_stated};
 ghost use Rattle.qa_convert.specs.Sources.{exponent_of, sources_in};
 ghost use Rattle.qa_convert.specs.Timers.{Expires};
 ghost use Rattle.qa_convert.specs.Telling.{Writes, next_marks, says_limited, told_in};
 
+use crate::decoding::Decoding;
 use crate::dialects::{Absent, Dialect, Limited};
 use crate::event::{LoggedEvent, Said};
 use crate::groups::{About, Group};
@@ -129,6 +130,7 @@ impl Conversion {
         ensures writing { result.writing ≡ writing }
         ensures keys { known_by result.keys ≡ no_keys }
         ensures exponent { result.known.delay_exponent ≡ exponent_of (sources_in survey.now) }
+        ensures state { result.is_app_limited ≡ false }
     {
         let none = PerSpace {
             initial: None,
@@ -173,9 +175,9 @@ impl Conversion {
         ensures keys { OnOk result (TellsKeys (keys_in group.about (known_by self.old.keys))
             (told_in self.old.writing) (told_in self.new.writing)) }
         ensures delays { OnOk result (Answers (decoding_of self.old) group.about
-            (told_in self.old.writing) (told_in self.new.writing)) }
+            group.beside.items (told_in self.old.writing) (told_in self.new.writing)) }
         ensures rules { OnOk result (rules_of self.new
-            ≡ rules_behind group.about (rules_of self.old)) }
+            ≡ rules_behind group.about group.beside.items (rules_of self.old)) }
     {
         let Group { about, beside } = group;
         match about {
@@ -203,7 +205,7 @@ impl Conversion {
             (keys_by event.now.at.place event.now.said (known_by self.old.keys))
             (told_in self.old.writing) (told_in self.new.writing)) }
         ensures rules { OnOk result (rules_of self.new
-            ≡ rules_by event.now.at.place event.now.said (rules_of self.old)) }
+            ≡ rules_by event.now (rules_of self.old)) }
     {
         match &event.said {
             Said::KeysCame(space) => self.keys.on_keys_came(&mut self.writing, event.at, *space),
@@ -227,7 +229,7 @@ impl Conversion {
     /// as it was.
     pub(crate) fn take_beside(&mut self, beside: &[LoggedEvent]) -> bool
         ensures writing { self.new.writing ≡ self.old.writing }
-        ensures rules { rules_of self.new ≡ rules_of self.old }
+        ensures rules { rules_of self.new ≡ rules_stated beside.now (rules_of self.old) }
     {
         let window = self.values.bytes.window;
         let mut is_report = false;
@@ -241,7 +243,7 @@ impl Conversion {
     /// Takes what an event says; whether it is a report of more than a count of probe timeouts.
     fn take(&mut self, event: &LoggedEvent) -> bool
         ensures writing { self.new.writing ≡ self.old.writing }
-        ensures rules { rules_of self.new ≡ rules_of self.old }
+        ensures rules { rules_of self.new ≡ rules_stated (event.now ∷ []) (rules_of self.old) }
     {
         match &event.said {
             Said::State(is_app_limited) => {
@@ -360,16 +362,17 @@ impl Conversion {
     /// Whether the sender had not used its window, by that before an acknowledgment.
     pub(crate) fn is_limited(
         &mut self,
-        limited: Limited,
+        decoding: Decoding,
         before: Option<u64>,
     ) -> Result<bool, AllocError>
-        ensures says { IfOk result (λ is_limited. is_by_state limited ≡ false
+        ensures says { IfOk result (λ is_limited.
+            (is_by_state decoding.limited && decoding.is_limited) ≡ false
             → says_limited is_limited (next_marks self.new.writing) ≡ true) }
         ensures told { OnOk result (told_in self.new.writing ≡ told_in self.old.writing) }
         ensures rules { OnOk result (rules_of self.new ≡ rules_of self.old) }
     {
-        match limited {
-            Limited::ByState => Ok(self.is_app_limited),
+        match decoding.limited {
+            Limited::ByState => Ok(decoding.is_limited),
             Limited::Never => Ok(false),
             Limited::ByWindow => self.is_limited_by_window(before),
         }

@@ -27,6 +27,8 @@ pub(crate) struct Decoding {
     pub(crate) has_cut_times: bool,
     /// How it is known that the sender had not used its window.
     pub(crate) limited: Limited,
+    /// Whether the sender is limited by its program, by the last state.
+    pub(crate) is_limited: bool,
 }
 
 impl Decoding {

@@ -1,10 +1,11 @@
 //! Losses that are declared, and the timers that find them.
-ghost use Rattle.std.specs.Prelude.{◌≡◌, ◌++◌, ◌∷◌, [], ℕ, IfNone, IfOk, IfSome, OnOk, false};
+ghost use Rattle.std.specs.Prelude.{◌≡◌, ◌++◌, ◌∷◌, [], ℕ, Bool, IfNone, IfOk, IfSome, OnOk, false};
 ghost use Rattle.std.specs.List.{list_any};
 ghost use Rattle.qa_base.specs.values.Events.{is_space};
 ghost use Rattle.qa_convert.specs.Losing.{ArePacketNumbers, Names, in_flight, in_space, is_among};
 ghost use Rattle.qa_convert.specs.Losing.{is_in, lost_in, packets_of, with_fit};
-ghost use Rattle.qa_convert.specs.Rules.{rules_of};
+ghost use Rattle.qa_convert.specs.Rules.{rules_of, rules_stated};
+ghost use Rattle.qa_convert.specs.States.{state_after};
 ghost use Rattle.qa_convert.specs.Telling.{next_marks, told_in};
 ghost use Rattle.qa_convert.specs.Timers.{AddsTimers, WritesTimer};
 ghost use Rattle.qa_convert.specs.declared.guess.Guess.TheVariants as a_guess;
@@ -42,7 +43,8 @@ impl Conversion {
         ensures lost { OnOk result (Names (in_flight self.old.writing.bare
             (packets_of losses.items ++ lost_in beside.items)) (told_in self.old.writing)
             (told_in self.new.writing)) }
-        ensures rules { OnOk result (rules_of self.new ≡ rules_of self.old) }
+        ensures rules { OnOk result (rules_of self.new
+            ≡ rules_stated beside.items (rules_of self.old)) }
     {
         let events = joined(self.writing.alloc, losses, beside)?;
         if self.known.logs_timers {
@@ -64,7 +66,8 @@ impl Conversion {
         ensures lost { OnOk result (Names (in_flight self.old.writing.bare
             (lost_in events.now)) (told_in self.old.writing) (told_in self.new.writing)) }
         ensures bare { OnOk result (self.new.writing.bare ≡ self.old.writing.bare) }
-        ensures rules { OnOk result (rules_of self.new ≡ rules_of self.old) }
+        ensures rules { OnOk result (rules_of self.new
+            ≡ rules_stated events.now (rules_of self.old)) }
     {
         let gap = self.known.gap;
         let mut begun = 0;
@@ -101,7 +104,8 @@ impl Conversion {
         ensures lost { OnOk result (Names (in_flight self.old.writing.bare
             (lost_in events.now)) (told_in self.old.writing) (told_in self.new.writing)) }
         ensures bare { OnOk result (self.new.writing.bare ≡ self.old.writing.bare) }
-        ensures rules { OnOk result (rules_of self.new ≡ rules_of self.old) }
+        ensures rules { OnOk result (rules_of self.new
+            ≡ rules_stated events.now (rules_of self.old)) }
     {
         let Some(first) = events.first() else {
             return Ok(());
@@ -133,7 +137,8 @@ impl Conversion {
         ensures lost { OnOk result (Names (in_flight self.old.writing.bare
             (packets_of losses.now)) (told_in self.old.writing) (told_in self.new.writing)) }
         ensures bare { OnOk result (self.new.writing.bare ≡ self.old.writing.bare) }
-        ensures rules { OnOk result (rules_of self.new ≡ rules_of self.old) }
+        ensures rules { OnOk result (rules_of self.new
+            ≡ rules_stated beside.now (rules_of self.old)) }
     {
         match self.first_in_flight(losses) {
             Some(first) => self.show(first, losses)?,
@@ -185,7 +190,8 @@ impl Conversion {
             ≡ (told_in self.old.writing).acks) }
         ensures lost { OnOk result (Names (in_flight self.old.writing.bare
             (lost_in beside.now)) (told_in self.old.writing) (told_in self.new.writing)) }
-        ensures rules { OnOk result (rules_of self.new ≡ rules_of self.old) }
+        ensures rules { OnOk result (rules_of self.new
+            ≡ rules_stated beside.now (rules_of self.old)) }
     {
         let losses = losses_in(self.writing.alloc, beside)?;
         self.write_expired(at, expiry, &losses, beside)?;
@@ -322,7 +328,8 @@ impl Conversion {
         ensures lost { OnOk result (Names (in_flight self.old.writing.bare
             (packets_of losses.now)) (told_in self.old.writing) (told_in self.new.writing)) }
         ensures bare { OnOk result (self.new.writing.bare ≡ self.old.writing.bare) }
-        ensures rules { OnOk result (rules_of self.new ≡ rules_of self.old) }
+        ensures rules { OnOk result (rules_of self.new
+            ≡ rules_stated beside.now (rules_of self.old)) }
     {
         self.write_lost(at.time, losses)?;
         if self.take_beside(beside) {
@@ -464,8 +471,10 @@ fn joined(
     losses: Vec<LostAt>,
     beside: Vec<LoggedEvent>,
 ) -> Result<Vec<LoggedEvent>, AllocError>
-    ensures { IfOk result (λ events. lost_in events.items
+    ensures lost { IfOk result (λ events. lost_in events.items
         ≡ packets_of losses.items ++ lost_in beside.items) }
+    ensures states { IfOk result (λ events. (before : Bool)
+        → state_after events.items before ≡ state_after beside.items before) }
 {
     let mut events = Vec::new(alloc);
     for it in &losses {

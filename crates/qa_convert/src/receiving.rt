@@ -1,12 +1,14 @@
 //! Packets that come, and what their ACK frames say.
-ghost use Rattle.std.specs.Prelude.{◌≡◌, ◌<◌, ◌≤◌, ◌++◌, ◌∷◌, [], IfOk, OnOk, length, true};
+ghost use Rattle.std.specs.Prelude.{◌≡◌, ◌<◌, ◌≤◌, ◌++◌, ◌∷◌, [], IfOk, OnOk, length, take, true};
+ghost use Rattle.std.specs.Prelude.{ℕ};
 ghost use Rattle.qa_base.specs.declared.space.Space.TheVariants.{Handshake};
 ghost use Rattle.qa_base.specs.values.Events.{is_space};
 ghost use Rattle.qa_convert.specs.AckDelays.{AddsAcks, AddsAllOrNone, IsDelayOf, TellsAcks};
 ghost use Rattle.qa_convert.specs.AckDelays.{decoding_of, lines_of};
 ghost use Rattle.qa_convert.specs.Losing.{Leaves, NamesOnly, lost_in, packets_of};
 ghost use Rattle.qa_convert.specs.KeyLines.{OnlyKeys, TellsKeys, known_by, with_come};
-ghost use Rattle.qa_convert.specs.Rules.{rules_of, rules_with};
+ghost use Rattle.qa_convert.specs.Rules.{rules_of, rules_stated, rules_with};
+ghost use Rattle.qa_convert.specs.States.{stated};
 ghost use Rattle.qa_convert.specs.Telling.{next_marks, told_in, will_say};
 ghost use Rattle.qa_convert.specs.declared.guess.Guess.{Guess as AGuess};
 
@@ -44,7 +46,8 @@ impl Conversion {
         before: Vec<LostAt>,
         beside: &[LoggedEvent],
     ) -> Result<(), NoLine>
-        ensures delays { OnOk result (AddsAllOrNone (decoding_of self.old) packet.now.packet
+        ensures delays { OnOk result ((n : ℕ) × AddsAllOrNone
+            (stated (take n beside.now) (decoding_of self.old)) packet.now.packet
             (told_in self.old.writing) (told_in self.new.writing)) }
         ensures sent { OnOk result ((told_in self.new.writing).sent
             ≡ (told_in self.old.writing).sent) }
@@ -55,10 +58,9 @@ impl Conversion {
             (told_in self.old.writing) (told_in self.new.writing)) }
         ensures lost { OnOk result (NamesOnly (packets_of before.items ++ lost_in beside.now)
             (told_in self.old.writing) (told_in self.new.writing)) }
-        ensures rules { OnOk result (rules_of self.new
-            ≡ rules_with packet.now.packet.space (rules_of self.old)) }
+        ensures rules { OnOk result (rules_of self.new ≡ rules_stated beside.now
+            (rules_with packet.now.packet.space (rules_of self.old))) }
     {
-        let decoding = self.decoding();
         self.has_come = true;
         let (beside, later) = beside.split_at(self.shown_part(packet, beside));
         let lost = self.lost_before(packet, before, beside)?;
@@ -66,6 +68,7 @@ impl Conversion {
         let held = self.values;
         let in_flight = self.writing.flights.bytes();
         let is_reported = self.take_beside(beside);
+        let decoding = self.decoding();
         let before = Before {
             held,
             in_flight,
@@ -88,6 +91,7 @@ impl Conversion {
             unit: self.writing.output.unit,
             has_cut_times: self.known.has_cut_times,
             limited: self.terms.dialect.limited,
+            is_limited: self.is_app_limited,
         }
     }
 
@@ -122,7 +126,8 @@ impl Conversion {
             ≡ (told_in self.old.writing).keys) }
         ensures lost { OnOk result (NamesOnly (lost_in later.now) (told_in self.old.writing)
             (told_in self.new.writing)) }
-        ensures rules { OnOk result (rules_of self.new ≡ rules_of self.old) }
+        ensures rules { OnOk result (rules_of self.new
+            ≡ rules_stated later.now (rules_of self.old)) }
     {
         if before.is_reported && self.writing.flights.bytes() < before.in_flight {
             self.take_zero();
@@ -384,7 +389,7 @@ impl Conversion {
             lost,
         };
         let (nanoseconds, delay) = self.came(packet, sent, answer)?;
-        let is_limited = self.is_limited(before.decoding.limited, before.held.bytes.window)?;
+        let is_limited = self.is_limited(before.decoding, before.held.bytes.window)?;
         let app_limited = is_limited && lost.is_empty();
         let time = self.writing.next_time(nanoseconds)?;
         let answer = Ack {

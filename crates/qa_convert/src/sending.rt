@@ -2,7 +2,7 @@
 ghost use Rattle.std.specs.Prelude.{◌≡◌, ◌∷◌, [], ◌||◌, Bool, IfOk, IfSome, List, OnOk, false};
 ghost use Rattle.std.specs.Prelude.{nat_eq, true};
 ghost use Rattle.qa_convert.specs.Guesses.{is_of_timer};
-ghost use Rattle.qa_convert.specs.Rules.{rules_of};
+ghost use Rattle.qa_convert.specs.Rules.{rules_of, rules_stated};
 ghost use Rattle.qa_convert.specs.Sending.{AreOf, IsOf, Wrote};
 ghost use Rattle.qa_convert.specs.Telling.{Sends, next_marks, says_leave, sized, told_in};
 ghost use Rattle.qa_convert.specs.Telling.{will_say};
@@ -108,12 +108,14 @@ impl Conversion {
         ensures sends { OnOk result (Sends self.old.known.settles_sizes
             self.old.terms.dialect.sizes_by_growth self.old.keys.retired packets.items
             (told_in self.old.writing) (told_in self.new.writing)) }
-        ensures rules { OnOk result (rules_of self.new ≡ rules_of self.old) }
+        ensures rules { OnOk result (rules_of self.new
+            ≡ rules_stated beside.now (rules_of self.old)) }
     {
         let settles = self.known.settles_sizes;
         let by_growth = self.terms.dialect.sizes_by_growth;
         let mut packets = with_sizes(self.writing.alloc, packets)?;
         let Some(first) = packets.first() else {
+            self.take_beside(beside);
             return Ok(());
         };
         let at = first.at;

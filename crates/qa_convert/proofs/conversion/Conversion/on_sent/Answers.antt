@@ -1,7 +1,7 @@
 use Rattle.std.proofs.Common.{◌≡◌, ◌≤◌, ◌∙◌, [], ◌∷◌, List, length, refl, sym, ap, subst, arith}
 use Rattle.std.proofs.lemmas.Result.{on_ok_weaker}
 use Rattle.qa_convert.proofs.Sent.{lines_are, none_sent}
-use Rattle.qa_convert.specs.Rules.{Rules, rules_of}
+use Rattle.qa_convert.specs.Rules.{Rules, rules_of, rules_stated}
 use Rattle.qa_convert.specs.Sending.{AreOf, Wrote}
 use Rattle.qa_convert.specs.Telling.{KnownKeys, sized, told_in, with_gone, with_sent}
 use Rattle.qa_convert.specs.declared.conversion.Conversion.{Conversion}
@@ -26,7 +26,7 @@ returns-in_default-clause-sends c =
       are = lines_are s g (sized c.args.packets.items) [] [] (subst (λ (os : List Outgoing). AreOf s g (sized c.args.packets.items) os) none (c.in_ok-packets.ensures s g)) refl;
       spaces = [];
       gone = tt;
-      told = none_sent (told_in c.args.self.now.writing);
+      told = ap told_in c.take_beside.ensures.writing ∙ none_sent (told_in c.args.self.now.writing);
     }
 
 pub returns-clause-sends : goal.returns-clause-sends
@@ -53,8 +53,10 @@ returns-clause-sends c =
       | then-awaits_discard+in_ok-settle w ↦ ap (λ (x : Conversion). told_in x.writing) w.self-is ∙ w.in_ok-settle.ensures.told ∙ settled
       | else-awaits_discard w ↦ ap (λ (x : Conversion). told_in x.writing) w.self-is ∙ settled
     ] in
-    let begun : rules_of c.take_beside-is_reported.new.self ≡ rules_of c.args.self.now = c.take_beside-is_reported.ensures.rules ∙ c.in_ok-guess_probes.ensures.rules in
-    let grown : rules_of c.if-is_some.self ≡ rules_of c.args.self.now =
+    let stated = rules_stated c.args.beside.now (rules_of c.args.self.now) in
+    let begun : rules_of c.take_beside-is_reported.new.self ≡ stated =
+    c.take_beside-is_reported.ensures.rules ∙ ap (rules_stated c.args.beside.now) c.in_ok-guess_probes.ensures.rules in
+    let grown : rules_of c.if-is_some.self ≡ stated =
     elim c.if-is_some.branch [
       | then-is_some+then-settles+in_ok-settle_sizes w ↦ ap rules_of w.self-is ∙ w.in_ok-settle_sizes.ensures.rules ∙ begun
       | else-is_some w ↦ ap rules_of w.self-is ∙ begun

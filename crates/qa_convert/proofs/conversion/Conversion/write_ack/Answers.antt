@@ -1,4 +1,5 @@
 use Rattle.std.proofs.Common.{◌≡◌, ◌∙◌, ◌++◌, [], false, true, ap, refl}
+use Rattle.std.specs.Prelude.{◌&&◌}
 use Rattle.std.proofs.lemmas.Result.{on_ok_weaker}
 use Rattle.qa_base.specs.declared.event.Ack.{Ack}
 use Rattle.qa_convert.proofs.Delayed.{limit_said, one_added}
@@ -23,7 +24,7 @@ returns-clause-acks c =
     } in
     let told : told_in c.next_time.new.self ≡ told_in c.args.self.now.writing = c.in_ok-time.ensures.told ∙ c.in_ok-is_limited.ensures.told ∙ c.in_ok-nanoseconds.ensures.told in
     let marks = next_marks c.next_time.new.self in
-    let limited : is_by_state d.limited ≡ false → says_limited c.if-is_limited.app_limited marks ≡ true = λ by_window.
+    let limited : (is_by_state d.limited && d.is_limited) ≡ false → says_limited c.if-is_limited.app_limited marks ≡ true = λ by_window.
     elim c.if-is_limited.branch [
       | then-is_limited w ↦
           rw w.app_limited-is
