@@ -2,6 +2,7 @@ pub mod Ascii
 pub mod Closing
 pub mod Delayed
 pub mod Ending
+pub mod Faulty
 pub mod Flown
 pub mod Gathered
 pub mod Goes

@@ -3,6 +3,7 @@ pub mod Asking
 pub mod Clocks
 pub mod Connections
 pub mod Dialects
+pub mod Faults
 pub mod Flights
 pub mod Gathering
 pub mod GroupLines

@@ -1,8 +1,12 @@
 //! The second reading of a log: its texts, one after another, as the lines of a trace.
-ghost use Rattle.std.specs.Prelude.{◌≡◌, ◌∷◌, [], IfOk, List, OnOk, Option, Some, false};
+ghost use Rattle.std.specs.Prelude.{◌≡◌, ◌∷◌, [], IfErr, IfOk, List, None, OnOk, Option, Some};
+ghost use Rattle.std.specs.Prelude.{false};
 ghost use Rattle.json.specs.Json.{Json, document};
 ghost use Rattle.json.specs.Find.{BeginsWith, Finds};
 ghost use Rattle.qa_qlog.specs.Packets.{header_of};
+ghost use Rattle.qa_convert.specs.Connections.{numbering_of};
+ghost use Rattle.qa_convert.specs.Faults.{IsFault, IsLossesFault, IsOneFault, IsRecordFault};
+ghost use Rattle.qa_convert.specs.Faults.{IsTextFault, OfEvent, OfRecord};
 ghost use Rattle.qa_convert.specs.GroupLines.{TellsOf};
 ghost use Rattle.qa_convert.specs.Groups.{Gathers};
 ghost use Rattle.qa_convert.specs.Orders.{Follows, LetsGo};
@@ -45,12 +49,22 @@ pub enum NoMore {
 }
 
 impl From<NoRecord> for NoMore {
+    ghost use Rattle.std.specs.Prelude.{◌≡◌};
+    ghost use Rattle.qa_convert.specs.declared.converting.NoMore.TheVariants.{Record};
+
+    ghost from_gives = { λ fault result. result ≡ Record fault };
+
     fn from(fault: NoRecord) -> Self {
         NoMore::Record(fault)
     }
 }
 
 impl From<NoLine> for NoMore {
+    ghost use Rattle.std.specs.Prelude.{◌≡◌};
+    ghost use Rattle.qa_convert.specs.declared.converting.NoMore.TheVariants.{Line};
+
+    ghost from_gives = { λ fault result. result ≡ Line fault };
+
     fn from(fault: NoLine) -> Self {
         NoMore::Line(fault)
     }
@@ -86,7 +100,6 @@ impl Converting {
     ) -> Converting
         ensures begins { Begins head chosen terms.dialect (sources_in survey)
             (progress_of result) }
-        ensures retry { result.retry ≡ survey.retry }
         ensures told { told_of result ≡ told_in writing }
         ensures unit { result.conversion.writing.output.unit ≡ writing.output.unit }
     {
@@ -114,9 +127,11 @@ impl Converting {
 
     /// Takes the next text, which begins there. After an error it is of no use.
     pub(crate) fn push(&mut self, room: &mut Room, text: &[u8], place: Place) -> Result<(), NoMore>
-        ensures { OnOk result ((j : Json) × (document text.now ≡ Some j)
+        ensures takes { OnOk result ((j : Json) × (document text.now ≡ Some j)
             × Takes j place (progress_of self.old) (told_of self.old) (progress_of self.new)
             (told_of self.new)) }
+        ensures fault { IfErr result (OfRecord (IsTextFault self.old.head
+            (numbering_of self.old.cursor.connections) text.now)) }
     {
         let Ok(text) = str::from_utf8(text) else {
             return Err(NoMore::Record(NoRecord::NotJson));
@@ -145,9 +160,12 @@ impl Converting {
 
     /// Takes the next record.
     fn take(&mut self, record: &Element<'_, '_>, place: Place) -> Result<(), NoMore>
-        ensures { (j : Json) → BeginsWith record.now j
+        ensures takes { (j : Json) → BeginsWith record.now j
             → OnOk result (Takes j place (progress_of self.old) (told_of self.old)
             (progress_of self.new) (told_of self.new)) }
+        ensures fault { (j : Json) → BeginsWith record.now j
+            → IfErr result (OfRecord (IsRecordFault self.old.head
+            (numbering_of self.old.cursor.connections) j)) }
     {
         match self.cursor.next(&self.head, record, place)? {
             Some(named) => self.take_event(named),
@@ -162,6 +180,8 @@ impl Converting {
             × SaysAll self.old.head.unit event.entry.name d all
             × Goes (events_at event.entry.at all) (progress_of self.old) (told_of self.old)
             (progress_of self.new) (told_of self.new)) }
+        ensures fault { (d : Option Json) → Finds event.entry.object d → IfErr result
+            (OfRecord (OfEvent (IsFault self.old.head.unit event.entry.name d))) }
         ensures cursor { self.new.cursor ≡ self.old.cursor }
     {
         let Named { name, at, object } = event;
@@ -175,9 +195,12 @@ impl Converting {
 
     /// What a record of this name says, with the size of a packet that is sent.
     fn said(&self, name: EventName, packet: &Packet<'_, '_>) -> Result<Said, NoRecord>
-        ensures { (d : Option Json) → Finds packet.now.object d
+        ensures says { (d : Option Json) → Finds packet.now.object d
             → Finds packet.now.header (header_of d)
             → IfOk result (SaysSized self.now.head.unit name d) }
+        ensures fault { (d : Option Json) → Finds packet.now.object d
+            → Finds packet.now.header (header_of d)
+            → IfErr result (OfEvent (IsOneFault self.now.head.unit name d)) }
     {
         let mut said = Said::of(self.alloc, name, packet, self.head.unit)?;
         if let Said::Sent(sent) = &mut said {
@@ -188,7 +211,8 @@ impl Converting {
 
     /// Gives a packet that is sent its size, if its record does not have it.
     fn give_size(&self, packet: &Packet<'_, '_>, sent: &mut LoggedPacket) -> Result<(), NoRecord>
-        ensures { OnOk result (GivesSize sent.old sent.new) }
+        ensures gives { OnOk result (GivesSize sent.old sent.new) }
+        ensures fault { IfErr result (OfEvent (λ _. sent.old.size ≡ None)) }
     {
         if sent.size.is_some() {
             return Ok(());
@@ -206,6 +230,8 @@ impl Converting {
         ensures goes { (d : Option Json) → Finds object.now d → OnOk result ((all : List Kept)
             × SaysLosses d all × Goes (events_at at all) (progress_of self.old)
             (told_of self.old) (progress_of self.new) (told_of self.new)) }
+        ensures fault { (d : Option Json) → Finds object.now d
+            → IfErr result (OfRecord (OfEvent (IsLossesFault d))) }
         ensures cursor { self.new.cursor ≡ self.old.cursor }
     {
         let losses = match losses_of(self.alloc, object) {

@@ -1,8 +1,12 @@
 //! What a log says, so that it can be kept once its records are gone.
-ghost use Rattle.std.specs.Prelude.{◌≡◌, ◌++◌, ◌∷◌, [], IfOk, List, Ok, OnOk, Option, Some};
+ghost use Rattle.std.specs.Prelude.{◌≡◌, ◌++◌, ◌∷◌, [], IfErr, IfOk, List, None, Ok, OnOk, Option};
+ghost use Rattle.std.specs.Prelude.{Some};
 ghost use Rattle.json.specs.Json as json;
 ghost use Rattle.json.specs.Json.{Json};
 ghost use Rattle.json.specs.Find.{BeginsWith, Finds, InItems};
+ghost use Rattle.qa_convert.specs.Faults.{IsEventFault, IsLossesFault, IsLostAmong, IsLostFault};
+ghost use Rattle.qa_convert.specs.Faults.{IsPacketFault, IsParametersFault, IsRecoveryFault};
+ghost use Rattle.qa_convert.specs.Faults.{IsReportFault, OfValue, OrMemory};
 ghost use Rattle.qa_convert.specs.Reading.{AreLosses, SaysLoss, SaysLosses};
 ghost use Rattle.qa_convert.specs.Said as said;
 ghost use Rattle.qa_convert.specs.Said.{IsRecoveryOf, IsReportOf, Says};
@@ -144,8 +148,11 @@ impl Said {
         packet: &Packet<'_, '_>,
         unit: Unit,
     ) -> Result<Said, NoEvent>
-        ensures { (d : Option Json) → Finds packet.now.object d
+        ensures says { (d : Option Json) → Finds packet.now.object d
             → Finds packet.now.header (header_of d) → IfOk result (Says unit name d) }
+        ensures fault { (d : Option Json) → Finds packet.now.object d
+            → Finds packet.now.header (header_of d)
+            → IfErr result (OrMemory (IsEventFault unit name d)) }
     {
         let object = &packet.object;
         match name {
@@ -167,8 +174,11 @@ impl Said {
 
 /// A packet that was sent.
 fn sent_of(alloc: Global, packet: &Packet<'_, '_>, unit: Unit) -> Result<Said, NoEvent>
-    ensures { (d : Option Json) → Finds packet.now.object d
+    ensures says { (d : Option Json) → Finds packet.now.object d
         → Finds packet.now.header (header_of d) → IfOk result (SaysSent unit d) }
+    ensures fault { (d : Option Json) → Finds packet.now.object d
+        → Finds packet.now.header (header_of d)
+        → IfErr result (OfValue (IsPacketFault unit d)) }
 {
     match LoggedPacket::of(alloc, packet, unit)? {
         Some(packet) => Ok(Said::Sent(packet)),
@@ -178,8 +188,11 @@ fn sent_of(alloc: Global, packet: &Packet<'_, '_>, unit: Unit) -> Result<Said, N
 
 /// A packet that came.
 fn received_of(alloc: Global, packet: &Packet<'_, '_>, unit: Unit) -> Result<Said, NoEvent>
-    ensures { (d : Option Json) → Finds packet.now.object d
+    ensures says { (d : Option Json) → Finds packet.now.object d
         → Finds packet.now.header (header_of d) → IfOk result (SaysReceived unit d) }
+    ensures fault { (d : Option Json) → Finds packet.now.object d
+        → Finds packet.now.header (header_of d)
+        → IfErr result (OfValue (IsPacketFault unit d)) }
 {
     match LoggedPacket::of(alloc, packet, unit)? {
         Some(packet) => Ok(Said::Received(packet)),
@@ -197,8 +210,10 @@ fn is_retry(packet: &Packet<'_, '_>) -> bool
 
 /// A packet that was declared lost.
 fn lost_of(packet: &Packet<'_, '_>, is_repeated: bool) -> Result<Said, NoEvent>
-    ensures { (h d : Option Json) → Finds packet.now.header h → Finds packet.now.object d
+    ensures says { (h d : Option Json) → Finds packet.now.header h → Finds packet.now.object d
         → IfOk result (SaysLost h d is_repeated) }
+    ensures fault { (h d : Option Json) → Finds packet.now.header h → Finds packet.now.object d
+        → IfErr result (IsLostFault h d) }
 {
     let Some(kind) = packet.packet_type() else {
         return Err(NoEvent::NoPacketType);
@@ -218,8 +233,10 @@ pub(crate) fn losses_of(
     alloc: Global,
     object: &Option<Element<'_, '_>>,
 ) -> Result<Vec<Said>, NoEvent>
-    ensures { (d : Option Json) → Finds object.now d
+    ensures says { (d : Option Json) → Finds object.now d
         → IfOk result (λ losses. SaysLosses d losses.items) }
+    ensures fault { (d : Option Json) → Finds object.now d
+        → IfErr result (OrMemory (IsLossesFault d)) }
 {
     match lost_packets(object)? {
         Some(headers) => losses_among(alloc, headers),
@@ -229,8 +246,10 @@ pub(crate) fn losses_of(
 
 /// The losses of packets with these headers.
 fn losses_among(alloc: Global, headers: Items<'_, '_>) -> Result<Vec<Said>, NoEvent>
-    ensures { (js : json.Items) → InItems headers.entry js
+    ensures says { (js : json.Items) → InItems headers.entry js
         → IfOk result (λ losses. AreLosses (listed js) losses.items) }
+    ensures fault { (js : json.Items) → InItems headers.entry js
+        → IfErr result (OrMemory (IsLostAmong (listed js))) }
 {
     let mut headers = headers;
     let mut losses = Vec::new(alloc);
@@ -243,7 +262,9 @@ fn losses_among(alloc: Global, headers: Items<'_, '_>) -> Result<Vec<Said>, NoEv
 
 /// The loss of a packet with this header, of which nothing else is said.
 fn loss_of(header: Element<'_, '_>) -> Result<Said, NoEvent>
-    ensures { (j : Json) → BeginsWith header.entry j → IfOk result (SaysLoss j) }
+    ensures says { (j : Json) → BeginsWith header.entry j → IfOk result (SaysLoss j) }
+    ensures fault { (j : Json) → BeginsWith header.entry j
+        → IfErr result (IsLostFault (Some j) None) }
 {
     let packet = Packet {
         header: Some(header),
@@ -262,7 +283,9 @@ fn push(losses: &mut Vec<Said>, said: Said) -> Result<(), AllocError>
 
 /// A report.
 fn report_of(object: &Option<Element<'_, '_>>, unit: Unit) -> Result<Report, NoValue>
-    ensures { (d : Option Json) → Finds object.now d → IfOk result (IsReportOf unit d) }
+    ensures says { (d : Option Json) → Finds object.now d → IfOk result (IsReportOf unit d) }
+    ensures fault { (d : Option Json) → Finds object.now d
+        → IfErr result (IsReportFault unit d) }
 {
     Ok(Report {
         rtts: reported_rtts(object, unit)?,
@@ -284,7 +307,9 @@ fn is_count_alone(object: &Option<Element<'_, '_>>) -> bool
 
 /// The parameters of recovery.
 fn recovery_of(object: &Option<Element<'_, '_>>, unit: Unit) -> Result<RecoveryParameters, NoValue>
-    ensures { (d : Option Json) → Finds object.now d → IfOk result (IsRecoveryOf unit d) }
+    ensures says { (d : Option Json) → Finds object.now d → IfOk result (IsRecoveryOf unit d) }
+    ensures fault { (d : Option Json) → Finds object.now d
+        → IfErr result (IsRecoveryFault unit d) }
 {
     Ok(RecoveryParameters {
         initial_rtt: duration_in(object, Key::InitialRtt, unit)?,
@@ -312,7 +337,10 @@ fn timer_of(object: &Option<Element<'_, '_>>) -> Said
 
 /// What a record says of transport parameters.
 fn parameters_of(object: &Option<Element<'_, '_>>, unit: Unit) -> Result<Said, NoEvent>
-    ensures { (d : Option Json) → Finds object.now d → IfOk result (said.SaysParameters unit d) }
+    ensures says { (d : Option Json) → Finds object.now d
+        → IfOk result (said.SaysParameters unit d) }
+    ensures fault { (d : Option Json) → Finds object.now d
+        → IfErr result (OfValue (IsParametersFault unit d)) }
 {
     if !is_of_peer(object) {
         return Ok(Said::OwnParameters);

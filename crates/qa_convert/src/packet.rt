@@ -1,8 +1,11 @@
 //! What a log says of a packet, so that it can be kept once its record is gone.
-ghost use Rattle.std.specs.Prelude.{◌≡◌, ◌++◌, ◌∷◌, [], IfOk, List, Ok, OnOk, Option, map};
+ghost use Rattle.std.specs.Prelude.{◌≡◌, ◌++◌, ◌∷◌, [], Err, IfErr, IfOk, List, Ok, OnOk};
+ghost use Rattle.std.specs.Prelude.{Option, map, true};
 ghost use Rattle.json.specs.Json as json;
 ghost use Rattle.json.specs.Json.{Json};
 ghost use Rattle.json.specs.Find.{BeginsWith, Finds, InItems};
+ghost use Rattle.qa_convert.specs.Faults.{IsAckFault, IsFaultAmong, IsFrameFault, IsNumberFault};
+ghost use Rattle.qa_convert.specs.Faults.{IsPacketFault, IsSizeFault, OfValue};
 ghost use Rattle.qa_convert.specs.Packets as packets;
 ghost use Rattle.qa_convert.specs.Packets.{AreAcksOf, GivesPacket, IsAckOf, IsContentOf, Keeps};
 ghost use Rattle.qa_convert.specs.declared.packet.LoggedAck.{LoggedAck as Kept};
@@ -58,6 +61,11 @@ impl From<AllocError> for NoEvent {
 }
 
 impl From<NoRanges> for NoEvent {
+    ghost use Rattle.std.specs.Prelude.{◌≡◌};
+    ghost use Rattle.qa_convert.specs.Faults.{of_ranges};
+
+    ghost from_gives = { λ fault result. result ≡ of_ranges fault };
+
     fn from(fault: NoRanges) -> Self {
         match fault {
             NoRanges::Unread(fault) => NoEvent::Unread(fault),
@@ -105,8 +113,11 @@ impl LoggedPacket {
         packet: &Packet<'_, '_>,
         unit: Unit,
     ) -> Result<Option<LoggedPacket>, NoEvent>
-        ensures { (d : Option Json) → Finds packet.now.object d
+        ensures gives { (d : Option Json) → Finds packet.now.object d
             → Finds packet.now.header (header_of d) → IfOk result (GivesPacket unit d) }
+        ensures fault { (d : Option Json) → Finds packet.now.object d
+            → Finds packet.now.header (header_of d)
+            → IfErr result (OfValue (IsPacketFault unit d)) }
     {
         let Some(space) = space_of(packet) else {
             return Ok(None);
@@ -141,8 +152,10 @@ pub(crate) fn space_of(packet: &Packet<'_, '_>) -> Option<Space>
 
 /// The number of a packet.
 pub(crate) fn number_of(packet: &Packet<'_, '_>) -> Result<PacketNumber, NoValue>
-    ensures { (h d : Option Json) → Finds packet.now.header h → Finds packet.now.object d
+    ensures gives { (h d : Option Json) → Finds packet.now.header h → Finds packet.now.object d
         → IfOk result (λ number. said_packets.number h d ≡ Ok number) }
+    ensures fault { (h d : Option Json) → Finds packet.now.header h → Finds packet.now.object d
+        → IfErr result (IsNumberFault h d) }
 {
     let number = packet.number()?;
     PacketNumber::new(number).ok_or(NoValue::OutOfRange(Key::PacketNumber))
@@ -150,8 +163,10 @@ pub(crate) fn number_of(packet: &Packet<'_, '_>) -> Result<PacketNumber, NoValue
 
 /// The size of a packet, if its record has it.
 fn size_of(packet: &Packet<'_, '_>) -> Result<Option<PacketSize>, NoValue>
-    ensures { (h d : Option Json) → Finds packet.now.header h → Finds packet.now.object d
+    ensures gives { (h d : Option Json) → Finds packet.now.header h → Finds packet.now.object d
         → IfOk result (λ size. said_packets.size h d ≡ Ok size) }
+    ensures fault { (h d : Option Json) → Finds packet.now.header h → Finds packet.now.object d
+        → IfErr result (IsSizeFault h d) }
 {
     match packet.size()? {
         None => Ok(None),
@@ -164,7 +179,10 @@ fn size_of(packet: &Packet<'_, '_>) -> Result<Option<PacketSize>, NoValue>
 
 /// What its frames make of a packet.
 fn content_of(packet: &Packet<'_, '_>) -> Result<Content, NoValue>
-    ensures { (d : Option Json) → Finds packet.now.object d → IfOk result (IsContentOf d) }
+    ensures gives { (d : Option Json) → Finds packet.now.object d
+        → IfOk result (IsContentOf d) }
+    ensures fault { (d : Option Json) → Finds packet.now.object d
+        → IfErr result (λ fault. frames.frames d ≡ Err fault) }
 {
     match packet.frames()? {
         Some(frames) => Ok(Content::of(frames)),
@@ -179,9 +197,11 @@ fn acks_of(
     content: Content,
     unit: Unit,
 ) -> Result<Vec<LoggedAck>, NoEvent>
-    ensures { (d : Option Json) → Finds packet.now.object d → IsContentOf d content
+    ensures gives { (d : Option Json) → Finds packet.now.object d → IsContentOf d content
         → IfOk result (λ acks. (js : List Json) × (frames.frames d ≡ Ok js)
         × AreAcksOf unit js acks.items) }
+    ensures fault { (d : Option Json) → Finds packet.now.object d
+        → IfErr result (OfValue (IsFrameFault unit d)) }
 {
     if !content.has_ack {
         return Ok(Vec::new(alloc));
@@ -194,8 +214,10 @@ fn acks_of(
 
 /// The ACK frames among frames.
 fn acks_among(alloc: Global, frames: Items<'_, '_>, unit: Unit) -> Result<Vec<LoggedAck>, NoEvent>
-    ensures { (js : json.Items) → InItems frames.entry js
+    ensures gives { (js : json.Items) → InItems frames.entry js
         → IfOk result (λ acks. AreAcksOf unit (listed js) acks.items) }
+    ensures fault { (js : json.Items) → InItems frames.entry js
+        → IfErr result (OfValue (IsFaultAmong unit (listed js))) }
 {
     let mut frames = frames;
     let mut acks = Vec::new(alloc);
@@ -212,8 +234,10 @@ fn keep(
     unit: Unit,
     acks: &mut Vec<LoggedAck>,
 ) -> Result<(), NoEvent>
-    ensures { (j : Json) → BeginsWith frame.now j → OnOk result ((kept : List Kept)
+    ensures gives { (j : Json) → BeginsWith frame.now j → OnOk result ((kept : List Kept)
         × (acks.new.items ≡ acks.old.items ++ kept) × Keeps unit j kept) }
+    ensures fault { (j : Json) → BeginsWith frame.now j → IfErr result (OfValue (λ fault.
+        (packets.is_ack (frames.type_of j) ≡ true) × IsAckFault unit j fault)) }
 {
     if is_ack(frame) {
         let ack = ack_of(alloc, frame, unit)?;
@@ -239,7 +263,9 @@ fn push(acks: &mut Vec<LoggedAck>, ack: LoggedAck) -> Result<(), AllocError>
 
 /// What an ACK frame says.
 fn ack_of(alloc: Global, frame: &Element<'_, '_>, unit: Unit) -> Result<LoggedAck, NoEvent>
-    ensures { (j : Json) → BeginsWith frame.now j → IfOk result (IsAckOf unit j) }
+    ensures gives { (j : Json) → BeginsWith frame.now j → IfOk result (IsAckOf unit j) }
+    ensures fault { (j : Json) → BeginsWith frame.now j
+        → IfErr result (OfValue (IsAckFault unit j)) }
 {
     Ok(LoggedAck {
         ranges: acked_ranges(alloc, frame)?,

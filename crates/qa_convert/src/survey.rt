@@ -1,7 +1,9 @@
 //! The first reading of a log: what has to be known before the first line is written.
-ghost use Rattle.std.specs.Prelude.{◌≡◌, ◌||◌, List, OnOk, Option, ℕ, false, option_map, true};
+ghost use Rattle.std.specs.Prelude.{◌≡◌, ◌||◌, IfErr, List, None, OnOk, Option, ℕ, false, option_map};
+ghost use Rattle.std.specs.Prelude.{true};
 ghost use Rattle.json.specs.Json.{Json};
 ghost use Rattle.json.specs.Find.{Finds};
+ghost use Rattle.qa_convert.specs.Faults.{IsUnsized, OrMemory};
 ghost use Rattle.qa_convert.specs.Groups.{has_some};
 ghost use Rattle.qa_convert.specs.Guesses.{is_of_datagram};
 ghost use Rattle.qa_convert.specs.Orders.{is_received, is_sent};
@@ -212,9 +214,10 @@ impl Survey {
         event: &LoggedEvent,
         said: &Packet<'_, '_>,
     ) -> Result<(), NoEvent>
-        ensures { (h d : Option Json) → Finds said.now.header h → Finds said.now.object d
-            → OnOk result (sources_in self.new
+        ensures sources { (h d : Option Json) → Finds said.now.header h
+            → Finds said.now.object d → OnOk result (sources_in self.new
             ≡ sources_by (a_destination h d) event.now (sources_in self.old)) }
+        ensures fault { IfErr result (OrMemory (λ _. IsUnsized event.now.said)) }
     {
         self.see_time(event.at.time);
         let is_looked_at = self.looking.goes_on();
@@ -337,7 +340,8 @@ impl Survey {
         packet: &LoggedPacket,
         said: &Packet<'_, '_>,
     ) -> Result<PacketSize, NoEvent>
-        ensures { sources_in self.new ≡ numbered packet.now (sources_in self.old) }
+        ensures sources { sources_in self.new ≡ numbered packet.now (sources_in self.old) }
+        ensures fault { IfErr result (λ _. packet.now.size ≡ None) }
     {
         *self.last_numbers.of_mut(packet.space) = Some(packet.number.get());
         self.sent_frames.see(said);

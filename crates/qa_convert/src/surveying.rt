@@ -1,15 +1,18 @@
 //! The first reading of a log: its texts, one after another.
-ghost use Rattle.std.specs.Prelude.{◌≡◌, IfOk, List, None, OnOk, Option, Some};
+ghost use Rattle.std.specs.Prelude.{◌≡◌, Err, IfErr, IfOk, List, None, OnOk, Option, Some};
 ghost use Rattle.json.specs.Json.{Json, document};
 ghost use Rattle.json.specs.Find.{BeginsWith, Finds};
 ghost use Rattle.qa_base.specs.declared.space.Role.{Role as ARole};
 ghost use Rattle.qa_convert.specs.Connections.{none_named, numbering_of};
-ghost use Rattle.qa_convert.specs.Reading.{Reads, SaysAll, SaysLosses, at_of, clock_before};
-ghost use Rattle.qa_convert.specs.Reading.{events_at, next_index};
+ghost use Rattle.qa_convert.specs.Faults.{IsFault, IsLossesFault, IsRecordFault, IsTextFault};
+ghost use Rattle.qa_convert.specs.Faults.{IsTimeFault, OfEvent};
+ghost use Rattle.qa_convert.specs.Reading.{AreLosses, Reads, SaysAll, SaysLosses, at_of};
+ghost use Rattle.qa_convert.specs.Reading.{clock_before, events_at, next_index};
 ghost use Rattle.qa_convert.specs.Sources.{destination_of, no_sources, sources_after, sources_in};
 ghost use Rattle.qa_convert.specs.Surveying.{Surveys, passed_over};
 ghost use Rattle.qa_convert.specs.Surveying.{surveyed_by, unread};
 ghost use Rattle.qa_convert.specs.declared.event.Said.{Said as ASaid};
+ghost use Rattle.qa_convert.specs.declared.surveying.NoRecord.TheVariants as no_record;
 ghost use Rattle.qa_qlog.specs.Lengths.{destination as a_destination};
 
 use crate::clock::Clock;
@@ -42,12 +45,22 @@ pub enum NoRecord {
 }
 
 impl From<NoTime> for NoRecord {
+    ghost use Rattle.std.specs.Prelude.{◌≡◌};
+    ghost use Rattle.qa_convert.specs.declared.surveying.NoRecord.TheVariants.{Time};
+
+    ghost from_gives = { λ fault result. result ≡ Time fault };
+
     fn from(fault: NoTime) -> Self {
         NoRecord::Time(fault)
     }
 }
 
 impl From<NoEvent> for NoRecord {
+    ghost use Rattle.std.specs.Prelude.{◌≡◌};
+    ghost use Rattle.qa_convert.specs.Faults.{of_event};
+
+    ghost from_gives = { λ fault result. result ≡ of_event fault };
+
     fn from(fault: NoEvent) -> Self {
         match fault {
             NoEvent::OutOfMemory => NoRecord::OutOfMemory,
@@ -57,6 +70,11 @@ impl From<NoEvent> for NoRecord {
 }
 
 impl From<AllocError> for NoRecord {
+    ghost use Rattle.std.specs.Prelude.{◌≡◌};
+    ghost use Rattle.qa_convert.specs.declared.surveying.NoRecord.TheVariants.{OutOfMemory};
+
+    ghost from_gives = { λ _ result. result ≡ OutOfMemory };
+
     fn from(_refused: AllocError) -> Self {
         NoRecord::OutOfMemory
     }
@@ -100,8 +118,10 @@ impl Cursor {
         record: &Element<'t, 'a>,
         place: Place,
     ) -> Result<Option<Named<'t, 'a>>, NoRecord>
-        ensures { (j : Json) → BeginsWith record.now j
+        ensures reads { (j : Json) → BeginsWith record.now j
             → IfOk result (Reads head.now j place self.old self.new) }
+        ensures fault { (j : Json) → BeginsWith record.now j
+            → IfErr result (IsTimeFault head.now j) }
     {
         let index = self.index;
         self.index = self.index.saturating_add(1);
@@ -172,8 +192,11 @@ impl Surveying {
         text: &[u8],
         place: Place,
     ) -> Result<(), NoRecord>
-        ensures { OnOk result ((j : Json) × (document text.now ≡ Some j)
+        ensures surveys { OnOk result ((j : Json) × (document text.now ≡ Some j)
             × Surveys j place (surveyed_by self.old) (surveyed_by self.new)) }
+        ensures fault { IfErr result (IsTextFault self.old.head
+            (numbering_of self.old.cursor.connections) text.now) }
+        ensures json { result ≡ Err no_record.NotJson → self.new ≡ self.old }
     {
         let Ok(text) = str::from_utf8(text) else {
             return Err(NoRecord::NotJson);
@@ -194,8 +217,11 @@ impl Surveying {
 
     /// Looks at the next record.
     fn see(&mut self, record: &Element<'_, '_>, place: Place) -> Result<(), NoRecord>
-        ensures { (j : Json) → BeginsWith record.now j
+        ensures surveys { (j : Json) → BeginsWith record.now j
             → OnOk result (Surveys j place (surveyed_by self.old) (surveyed_by self.new)) }
+        ensures fault { (j : Json) → BeginsWith record.now j
+            → IfErr result (IsRecordFault self.old.head
+            (numbering_of self.old.cursor.connections) j) }
     {
         match self.cursor.next(&self.head, record, place)? {
             Some(named) => self.see_event(named),
@@ -209,6 +235,8 @@ impl Surveying {
             → OnOk result ((all : List ASaid) × SaysAll self.old.head.unit event.entry.name d all
             × (sources_in self.new.survey ≡ sources_after (destination_of d)
             (events_at event.entry.at all) (sources_in self.old.survey))) }
+        ensures fault { (d : Option Json) → Finds event.entry.object d
+            → IfErr result (OfEvent (IsFault self.old.head.unit event.entry.name d)) }
         ensures head { self.new.head ≡ self.old.head }
         ensures cursor { self.new.cursor ≡ self.old.cursor }
     {
@@ -229,6 +257,8 @@ impl Surveying {
             × SaysLosses d all
             × (sources_in self.new.survey ≡ sources_after (destination_of d) (events_at at all)
             (sources_in self.old.survey))) }
+        ensures fault { (d : Option Json) → Finds object.entry d
+            → IfErr result (OfEvent (IsLossesFault d)) }
         ensures head { self.new.head ≡ self.old.head }
         ensures cursor { self.new.cursor ≡ self.old.cursor }
     {
@@ -243,6 +273,8 @@ impl Surveying {
             → Finds packet.now.object d → OnOk result (sources_in self.new.survey
             ≡ sources_after (a_destination h d) (events_at at all.items)
             (sources_in self.old.survey)) }
+        ensures fault { (hs : List Json) → AreLosses hs all.items
+            → IfErr result (OfEvent (λ _. ⊥)) }
         ensures head { self.new.head ≡ self.old.head }
         ensures cursor { self.new.cursor ≡ self.old.cursor }
     {

@@ -1,8 +1,9 @@
 //! A log as a trace: it is read twice, text by text.
-ghost use Rattle.std.specs.Prelude.{◌≡◌, [], IfOk, OnOk, Some};
+ghost use Rattle.std.specs.Prelude.{◌≡◌, [], Err, IfErr, IfOk, OnOk, Some};
 ghost use Rattle.json.specs.Json.{Json, document};
 ghost use Rattle.qa_convert.specs.Dialects.{IsLike};
 ghost use Rattle.qa_convert.specs.OwnKeys.{AreEventLines, IsHeaderLine};
+ghost use Rattle.qa_convert.specs.Faults.{IsTextFault, OfRecord};
 ghost use Rattle.qa_convert.specs.Headers.{IsHeaderOf};
 ghost use Rattle.qa_convert.specs.Passing.{Closes};
 ghost use Rattle.qa_convert.specs.Surveying.{Surveys, passed_over, unread};
@@ -130,6 +131,9 @@ impl FirstReading {
         ensures asked { self.new.0 ≡ self.old.0 }
         ensures surveys { OnOk result ((j : Json) × (document text.now ≡ Some j)
             × Surveys j place self.old.1 self.new.1) }
+        ensures fault { IfErr result (IsTextFault self.old.1.head self.old.1.connections
+            text.now) }
+        ensures json { result ≡ Err NoRecord.NotJson → self.new ≡ self.old }
     {
         let result = self.surveying.push(&mut self.room, text, place);
         self.room.clear();
@@ -253,6 +257,8 @@ impl SecondReading {
     pub fn push(&mut self, text: &[u8], place: Place) -> Result<(), NoMore>
         ensures takes { OnOk result ((j : Json) × (document text.now ≡ Some j)
             × Takes j place self.old.2 (told self.old.1) self.new.2 (told self.new.1)) }
+        ensures fault { IfErr result (OfRecord (IsTextFault self.old.2.head
+            self.old.2.connections text.now)) }
         ensures line { self.new.0 ≡ self.old.0 }
     {
         let result = self.converting.push(&mut self.room, text, place);

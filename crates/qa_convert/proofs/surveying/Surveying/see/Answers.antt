@@ -6,13 +6,16 @@ use Rattle.qa_convert.proofs.Surveyed.{same_survey}
 use Rattle.qa_convert.specs.Connections.{numbering_of}
 use Rattle.qa_convert.specs.Reading.{at_of, chosen_only, clock_after, connections_after, events_at, name_of, next_index}
 use Rattle.qa_convert.specs.Sources.{destination_of, sources_after, sources_in}
+use Rattle.std.proofs.lemmas.Result.{IfErr-weaker}
+use Rattle.qa_convert.proofs.Faulty.{event_fault, if_err, time_fault}
+use Rattle.qa_convert.specs.Faults.{IsFault, IsRecordFault, OfEvent}
 use Rattle.qa_convert.proofs.surveying.Surveying.see.Goals as goal
 
-pub returns-in-Some : goal.returns-in-Some
-returns-in-Some c j begins =
+pub returns-in-Some-clause-surveys : goal.returns-in-Some-clause-surveys
+returns-in-Some-clause-surveys c j begins =
     let old = c.args.self.now in
     let new = c.see_event.new.self in
-    let reads = rw c.in-Some.is at (c.in_ok-named.ensures j begins) in
+    let reads = rw c.in-Some.is at (c.in_ok-named.ensures.reads j begins) in
     let finds = reads.finds in
     let index : new.cursor.index ≡ next_index old.cursor.index = rw c.see_event.ensures.cursor reads.index in
     let clock : new.cursor.clock ≡ clock_after old.cursor.clock reads.event = rw c.see_event.ensures.cursor reads.clock in
@@ -28,10 +31,10 @@ returns-in-Some c j begins =
     })
     (c.see_event.ensures.says (data_of old.head.fields j) finds.2)
 
-pub returns-in-None : goal.returns-in-None
-returns-in-None c j begins =
+pub returns-in-None-clause-surveys : goal.returns-in-None-clause-surveys
+returns-in-None-clause-surveys c j begins =
     let old = c.args.self.now in
-    let reads = rw c.in-None.is at (c.in_ok-named.ensures j begins) in
+    let reads = rw c.in-None.is at (c.in_ok-named.ensures.reads j begins) in
     record {
       event = reads.event;
       says = reads.says;
@@ -40,3 +43,19 @@ returns-in-None c j begins =
       is = same_survey (record old { cursor = c.next.new.self }) old.head (clock_after old.cursor.clock reads.event)
           (connections_after old.head j (name_of reads.event) (numbering_of old.cursor.connections)) (next_index old.cursor.index) (sources_in old.survey) refl reads.clock reads.connections reads.index refl;
     }
+
+pub returns-in_err-named-clause-fault : goal.returns-in_err-named-clause-fault
+returns-in_err-named-clause-fault c j begins =
+    let old = c.args.self.now in
+    if_err (IsRecordFault old.head (numbering_of old.cursor.connections) j) c.from_residual.result _ c.from_residual.ensures.1
+    (time_fault old.head (numbering_of old.cursor.connections) j _ (c.in_err-named.ensures.fault j begins))
+
+pub returns-in-Some-clause-fault : goal.returns-in-Some-clause-fault
+returns-in-Some-clause-fault c j begins =
+    let old = c.args.self.now in
+    let n = c.in-Some.named.name in
+    let d = data_of old.head.fields j in
+    let reads = rw c.in-Some.is at (c.in_ok-named.ensures.reads j begins) in
+    IfErr-weaker c.see_event.result (OfEvent (IsFault old.head.unit n d)) (IsRecordFault old.head (numbering_of old.cursor.connections) j)
+    (λ e. event_fault old.head (numbering_of old.cursor.connections) j reads.event n e reads.says reads.finds.0)
+    (c.see_event.ensures.fault d reads.finds.2)
