@@ -13,6 +13,7 @@ pub mod Headers
 pub mod KeyLines
 pub mod Losing
 pub mod Marks
+pub mod Omissions
 pub mod Orders
 pub mod Outputs
 pub mod OwnKeys

@@ -1,4 +1,6 @@
 //! What a log says and the trace does not, and what it shows that no trace can say.
+ghost use Rattle.std.specs.Prelude.{◌≡◌};
+ghost use Rattle.qa_convert.specs.Omissions.{is_of_timer, limit_text, omission_text};
 
 /// What a log says and the trace does not.
 #[derive(Clone, Copy, PartialEq, Eq)]
@@ -31,7 +33,9 @@ pub enum Omission {
 
 impl Omission {
     /// Whether it is a timer: it decides what may be sent, so it is told in any case.
-    pub(crate) fn is_of_timer(self) -> bool {
+    pub(crate) fn is_of_timer(self) -> bool
+        ensures { result ≡ is_of_timer self }
+    {
         matches!(
             self,
             Omission::IdleTimer | Omission::BareTimer | Omission::OtherTimer
@@ -39,7 +43,9 @@ impl Omission {
     }
 
     /// What is said of it.
-    pub fn text(self) -> &'static str {
+    pub fn text(self) -> &'static str
+        ensures { result.now ≡ omission_text self }
+    {
         match self {
             Omission::AckOfGoneSpace => "an acknowledgment of a discarded space",
             Omission::AckOfNothing => "an acknowledgment frame without ranges",
@@ -81,7 +87,9 @@ pub enum Limit {
 
 impl Limit {
     /// What is said of it.
-    pub fn text(self) -> &'static str {
+    pub fn text(self) -> &'static str
+        ensures { result.now ≡ limit_text self }
+    {
         match self {
             Limit::Marks => {
                 "acknowledgments report CE marks, of which traces say nothing: a window that falls \
