@@ -7,10 +7,17 @@ from pathlib import Path
 
 from qlog_to_trace.dialects import DIALECTS, GENERIC, Absent, Dialect, Limited
 
-SOURCE = Path(__file__).parents[3] / "crates/qa_convert/src/dialects.rt"
+SOURCES = Path(__file__).parents[3] / "crates/qa_convert/src"
+SOURCE = SOURCES / "dialects.rt"
 CONSTANT = re.compile(r"const (\w+): Dialect = Dialect \{\n(.*?)\n\};", re.DOTALL)
 ORDER = re.compile(r"const DIALECTS: \[Dialect; \d+\] = \[\n(.*?)\n\];", re.DOTALL)
 BASE = re.compile(r"\.\.(\w+)")
+# What has the texts of each stack, by functions, and an arm of one.
+STACKS = SOURCES / "stacks.rt"
+TEXTS = re.compile(
+    r"fn (\w+)\(self\) -> &'static str\n.*?\bmatch self \{\n(.*?)\n {8}\}\n", re.DOTALL
+)
+ARM = re.compile(r'([\w:|\s]+)=>\s*(?:\{\s*)?"(.*?)"')
 # Keys that have another name there, and the one that only documents need.
 NAMES = {"marks": "mark", "schemas": "schema", "delay_spaces": "subtracts_delay"}
 NOT_THERE = {"is_tried"}
@@ -32,8 +39,26 @@ UNITS = {"us": "Microseconds", "ns": "Nanoseconds"}
 OPTIONAL = {"initial_rtt", "logs_timers", "packets_between_pings", "unit"}
 
 
-def found_in(text: str) -> dict[str, dict[str, str]]:
-    """The constants of a source, each with its fields."""
+def texts_in(source: str) -> dict[str, dict[str, str]]:
+    """What the functions of a source say, each by its patterns."""
+    return {
+        name: {
+            pattern.strip(): text
+            for patterns, text in ARM.findall(body)
+            for pattern in patterns.split("|")
+        }
+        for name, body in TEXTS.findall(source)
+    }
+
+
+def texts_of(stack: str, texts: dict[str, dict[str, str]]) -> dict[str, str]:
+    """What each function says of a stack, as it stands there."""
+    found = {name: of[stack if stack in of else "_"] for name, of in texts.items()}
+    return {name: f'"{text}"' for name, text in found.items()}
+
+
+def found_in(text: str, texts: dict[str, dict[str, str]]) -> dict[str, dict[str, str]]:
+    """The constants of a source, each with its fields, and the texts of its stack."""
     constants: dict[str, dict[str, str]] = {}
     for name, body in CONSTANT.findall(text):
         base = BASE.search(body)
@@ -41,6 +66,8 @@ def found_in(text: str) -> dict[str, dict[str, str]]:
         lines = (line.strip().rstrip(",") for line in body.split("\n"))
         values |= dict(line.split(": ", 1) for line in lines if ": " in line)
         constants[name] = values
+    for values in constants.values():
+        values |= texts_of(values.pop("stack"), texts)
     return constants
 
 
@@ -75,7 +102,7 @@ class Table(unittest.TestCase):
     """Each dialect of one table is in the other."""
 
     def test_the_values_of_each(self) -> None:
-        constants = found_in(SOURCE.read_text())
+        constants = found_in(SOURCE.read_text(), texts_in(STACKS.read_text()))
         self.assertEqual(set(constants), {constant_of(it) for it in DIALECTS})
         for dialect in DIALECTS:
             expected = {

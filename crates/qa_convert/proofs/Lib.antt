@@ -1,6 +1,7 @@
 pub mod Ascii
 pub mod Closing
 pub mod Delayed
+pub mod Dialected
 pub mod Ending
 pub mod Faulty
 pub mod Flown

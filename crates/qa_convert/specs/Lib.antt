@@ -26,6 +26,7 @@ pub mod Rules
 pub mod Said
 pub mod Sending
 pub mod Sources
+pub mod Stacks
 pub mod States
 pub mod Surveying
 pub mod Taking

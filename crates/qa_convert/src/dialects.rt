@@ -1,6 +1,12 @@
 //! What is known of the stacks: what their logs leave out, and what is taken in its place.
 //!
-//! A new stack is one more constant, and its place in `DIALECTS`.
+//! A new stack is one more `Stack`, with its texts there and in `specs/Stacks.antt`, and here one
+//! more constant and its place in `DIALECTS`.
+ghost use Rattle.std.specs.Prelude.{◌≡◌, find};
+ghost use Rattle.qa_convert.specs.Dialects.{begins_with, has_mark, has_name, is_marked, is_meant};
+ghost use Rattle.qa_convert.specs.Dialects.{is_said, kind_of, named};
+
+use crate::stacks::Stack;
 use qa_base::{PerSpace, TimeUnit};
 
 /// How it is known that the sender had not used its window (RFC 9002, section 7.8).
@@ -28,12 +34,8 @@ pub enum Absent {
 /// A kind of log. Times are in microseconds.
 #[derive(Clone, Copy)]
 pub struct Dialect {
-    /// Its name.
-    pub name: &'static str,
-    /// It is of this kind if its title or the name of its vantage point has this.
-    pub mark: &'static str,
-    /// If several have the same mark, its version or schema begins with this.
-    pub schema: &'static str,
+    /// The stack that writes it.
+    pub stack: Stack,
     /// The RTT before a sample, if the log does not say it.
     pub initial_rtt: Option<u64>,
     /// How many datagrams the first window has.
@@ -47,8 +49,6 @@ pub struct Dialect {
     pub is_read_late: bool,
     /// Whether each difference of its times is cut to a whole millisecond.
     pub cuts_times: bool,
-    /// What to do if its logs give no trace.
-    pub advice: &'static str,
     /// How large a packet is that a frame without a length fills.
     pub full_packet: u64,
     /// Whether a loss is in front of the packet that shows it.
@@ -131,16 +131,13 @@ const APP_ALONE: PerSpace<bool> = PerSpace {
 
 /// For all logs that are of no other kind.
 pub const GENERIC: Dialect = Dialect {
-    name: "generic",
-    mark: "",
-    schema: "",
+    stack: Stack::Generic,
     initial_rtt: None,
     initial_datagrams: 10,
     sizes_by_growth: false,
     delay_is_encoded: false,
     is_read_late: false,
     cuts_times: false,
-    advice: "",
     full_packet: 1_200,
     losses_stand_before: false,
     metrics_stand_before: false,
@@ -174,9 +171,7 @@ pub const GENERIC: Dialect = Dialect {
 /// Metrics have changes alone, and no `ssthresh`. PADDING is not logged, nor is the timer of a
 /// client with nothing in flight.
 const QUIC_GO: Dialect = Dialect {
-    name: "quic-go",
-    mark: "quic-go",
-    schema: "draft",
+    stack: Stack::QuicGo,
     initial_rtt: Some(66_666),
     initial_datagrams: 32,
     is_read_late: true,
@@ -192,8 +187,7 @@ const QUIC_GO: Dialect = Dialect {
 
 /// quic-go 0.50: JSON-SEQ, 0.3. A packet that came is logged after its frames were handled.
 const QUIC_GO_0_50: Dialect = Dialect {
-    name: "quic-go-0.50",
-    schema: "0.",
+    stack: Stack::QuicGo050,
     received_stands_last: true,
     ..QUIC_GO
 };
@@ -201,8 +195,7 @@ const QUIC_GO_0_50: Dialect = Dialect {
 /// quic-go 0.59: the schema of 0.4, and values of 0 are left out. All packets are kept until they
 /// are acknowledged, so there is a sample if the largest is not ack-eliciting.
 const QUIC_GO_0_59: Dialect = Dialect {
-    name: "quic-go-0.59",
-    schema: "urn:",
+    stack: Stack::QuicGo059,
     absent: Absent::SameOrZero,
     sample_eliciting_only: false,
     counts_packets: true,
@@ -212,8 +205,7 @@ const QUIC_GO_0_59: Dialect = Dialect {
 /// ngtcp2 0.12: JSON-SEQ, 0.3, all times in whole milliseconds, rounded down. No timers and no
 /// keys. Metrics have all values.
 const NGTCP2: Dialect = Dialect {
-    name: "ngtcp2",
-    mark: "ngtcp2",
+    stack: Stack::Ngtcp2,
     losses_stand_before: true,
     absent: Absent::Unknown,
     logs_timers: Some(false),
@@ -232,8 +224,7 @@ const NGTCP2: Dialect = Dialect {
 /// aioquic 1.2: one JSON object, 0.3, times of the wall clock. No timers, no PTO count and no
 /// `key_retired` of the Initial space.
 const AIOQUIC: Dialect = Dialect {
-    name: "aioquic",
-    mark: "aioquic",
+    stack: Stack::Aioquic,
     initial_rtt: Some(66_666),
     metrics_stand_before: true,
     logs_timers: Some(false),
@@ -252,8 +243,7 @@ const AIOQUIC: Dialect = Dialect {
 /// OpenSSL 3.6: JSON-SEQ, 0.3, delta times, each cut to a whole millisecond. No sizes, no metrics,
 /// no timers, no keys.
 const OPENSSL: Dialect = Dialect {
-    name: "openssl",
-    mark: "openssl/",
+    stack: Stack::OpenSsl,
     cuts_times: true,
     full_packet: 1_198,
     logs_timers: Some(false),
@@ -269,8 +259,7 @@ const OPENSSL: Dialect = Dialect {
 /// neqo, as Firefox 153 runs it: JSON-SEQ, 0.3, times with six decimals. A size leaves out padding,
 /// or is that of the datagram so far.
 const NEQO: Dialect = Dialect {
-    name: "neqo",
-    mark: "neqo",
+    stack: Stack::Neqo,
     sizes_by_growth: true,
     delay_is_encoded: true,
     logs_timers: Some(true),
@@ -283,8 +272,7 @@ const NEQO: Dialect = Dialect {
 
 /// The netlog of Chromium 156: no window, no metrics, no timers. CUBIC. The time threshold is 5/4.
 const CHROMIUM: Dialect = Dialect {
-    name: "chromium",
-    mark: "netlog of chromium",
+    stack: Stack::Chromium,
     initial_rtt: Some(100_000),
     logs_timers: Some(false),
     probes_by_trigger: true,
@@ -299,9 +287,7 @@ const CHROMIUM: Dialect = Dialect {
 
 /// quinn, by its documentation: JSON-SEQ, 0.3, times in milliseconds with fractions.
 const QUINN: Dialect = Dialect {
-    name: "quinn",
-    mark: "quinn",
-    advice: "quinn logs none; hooks in its recovery code give a trace (docs/stacks.md)",
+    stack: Stack::Quinn,
     slack_us: 1_000,
     slack_bytes: 1_200,
     timer_early_us: 1_000,
@@ -310,8 +296,7 @@ const QUINN: Dialect = Dialect {
 
 /// quiche, by its documentation: as quinn.
 const QUICHE: Dialect = Dialect {
-    name: "quiche",
-    mark: "quiche",
+    stack: Stack::Quiche,
     slack_us: 1_000,
     slack_bytes: 1_200,
     timer_early_us: 1_000,
@@ -320,8 +305,7 @@ const QUICHE: Dialect = Dialect {
 
 /// mvfst, by its documentation: one JSON object, events as lists, times in microseconds.
 const MVFST: Dialect = Dialect {
-    name: "mvfst",
-    mark: "mvfst",
+    stack: Stack::Mvfst,
     slack_us: 1_000,
     timer_early_us: 1_000,
     ..GENERIC
@@ -344,32 +328,65 @@ const DIALECTS: [Dialect; 11] = [
 
 /// The kind of a log, by what its head says of who wrote it, and by its version or schema: the
 /// first with both its mark and its schema, else the first with its mark.
-pub fn dialect_of(said: &[&str], schema: &str) -> Dialect {
-    let mut marked = None;
-    for dialect in DIALECTS.iter() {
-        if is_said(said, dialect.mark) {
-            if schema.starts_with(dialect.schema) {
-                return *dialect;
-            }
-            marked = marked.or(Some(*dialect));
-        }
-    }
-    marked.unwrap_or(GENERIC)
+pub fn dialect_of(said: &[&str], schema: &str) -> Dialect
+    ensures { result ≡ kind_of said.now schema.now }
+{
+    meant_among(&DIALECTS, said, schema)
+        .or(marked_among(&DIALECTS, said))
+        .unwrap_or(GENERIC)
 }
 
 /// The dialect of this name.
-pub fn dialect_named(name: &str) -> Option<Dialect> {
-    if name == GENERIC.name {
+pub fn dialect_named(name: &str) -> Option<Dialect>
+    ensures { result ≡ named name.now }
+{
+    if GENERIC.stack.name() == name {
         return Some(GENERIC);
     }
-    DIALECTS
+    named_among(&DIALECTS, name)
+}
+
+/// The first of these dialects that has both its mark and its schema.
+fn meant_among(dialects: &[Dialect], said: &[&str], schema: &str) -> Option<Dialect>
+    ensures { result ≡ find (is_meant said.now schema.now) dialects.now }
+{
+    dialects
         .iter()
-        .find(|dialect| dialect.name == name)
+        .find(|dialect| is_meant(dialect, said, schema))
         .copied()
 }
 
+/// The first of these dialects that has its mark.
+fn marked_among(dialects: &[Dialect], said: &[&str]) -> Option<Dialect>
+    ensures { result ≡ find (is_marked said.now) dialects.now }
+{
+    dialects
+        .iter()
+        .find(|dialect| is_said(said, dialect.stack.mark()))
+        .copied()
+}
+
+/// The first of these dialects that has this name.
+fn named_among(dialects: &[Dialect], name: &str) -> Option<Dialect>
+    ensures { result ≡ find (has_name name.now) dialects.now }
+{
+    dialects
+        .iter()
+        .find(|dialect| dialect.stack.name() == name)
+        .copied()
+}
+
+/// Whether a log has both the mark and the schema of a dialect.
+fn is_meant(dialect: &Dialect, said: &[&str], schema: &str) -> bool
+    ensures { result ≡ is_meant said.now schema.now dialect.now }
+{
+    is_said(said, dialect.stack.mark()) && schema.starts_with(dialect.stack.schema())
+}
+
 /// Whether some text has this mark, in small or large letters.
-fn is_said(said: &[&str], mark: &str) -> bool {
+fn is_said(said: &[&str], mark: &str) -> bool
+    ensures { result ≡ is_said said.now mark.now }
+{
     for text in said {
         if has_mark(text.as_bytes(), mark.as_bytes()) {
             return true;
@@ -379,12 +396,20 @@ fn is_said(said: &[&str], mark: &str) -> bool {
 }
 
 /// Whether a text has a mark.
-fn has_mark(text: &[u8], mark: &[u8]) -> bool {
+fn has_mark(text: &[u8], mark: &[u8]) -> bool
+    ensures { result ≡ has_mark mark.now text.now }
+{
     for at in 0..text.len() {
-        let rest = &text[at..];
-        if mark.len() <= rest.len() && rest[..mark.len()].eq_ignore_ascii_case(mark) {
+        if begins_with(&text[at..], mark) {
             return true;
         }
     }
     false
+}
+
+/// Whether a text begins with a mark.
+fn begins_with(text: &[u8], mark: &[u8]) -> bool
+    ensures { result ≡ begins_with mark.now text.now }
+{
+    mark.len() <= text.len() && text[..mark.len()].eq_ignore_ascii_case(mark)
 }

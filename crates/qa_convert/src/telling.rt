@@ -48,7 +48,7 @@ impl Notes {
         named: &Dialect,
         found: &Dialect,
     ) -> Result<(), AllocError> {
-        let name = named.name;
+        let name = named.stack.name();
         let order = Order::of(found).text();
         let text = format!(in alloc; "its order is not that of {name}: {order}; it is read so")?;
         self.doubts.push(text)?;

@@ -12,7 +12,7 @@ ghost use Rattle.qa_convert.specs.Telling.{nothing, told};
 
 use crate::conversion::Terms;
 use crate::converting::{Converting, NoMore};
-use crate::dialects::{Dialect, GENERIC};
+use crate::dialects::Dialect;
 use crate::header::{Choices, NoHeader};
 use crate::lines::HeaderLine;
 use crate::looking::Order;
@@ -20,6 +20,7 @@ use crate::noted::NotedFault;
 use crate::notes::Notes;
 use crate::place::Place;
 use crate::room::Room;
+use crate::stacks::Stack;
 use crate::survey::{NoSurvey, Survey};
 use crate::surveying::{NoRecord, Surveying};
 use crate::writing::{NoLine, Writing};
@@ -177,7 +178,7 @@ impl FirstReading {
         let header = asked
             .choices
             .header(asked.role, &dialect, &survey, &mut writing)?;
-        let name = dialect.name;
+        let name = dialect.stack.name();
         let line = writing.output.header(header, name, &writing.notes.doubts)?;
         let options = header.options();
         writing.notes.warn(alloc, &dialect, &survey, options)?;
@@ -204,7 +205,7 @@ impl FirstReading {
 fn dialect_by(survey: &Survey, asked: Dialect) -> Dialect
     ensures { IsLike asked result }
 {
-    if asked.name == GENERIC.name {
+    if asked.stack == Stack::Generic {
         return survey.looking.dialect(asked, survey.has_milliseconds);
     }
     survey.looking.corrected(asked).unwrap_or(asked)
@@ -218,7 +219,7 @@ fn doubt(
     found: &Dialect,
     notes: &mut Notes,
 ) -> Result<(), AllocError> {
-    if asked.name == GENERIC.name {
+    if asked.stack == Stack::Generic {
         notes.find(alloc, &survey.looking, found, survey.has_milliseconds)?;
     } else if Order::of(found) != Order::of(asked) {
         notes.doubt_order(alloc, asked, found)?;

@@ -161,7 +161,9 @@ fn wanted_in<'a>(matches: &ArgMatches<'a>, format: Format) -> Wanted<'a> {
         request: Request {
             vantage: matches.get_str(VANTAGE).and_then(Role::named),
             connection: matches.get_one::<u64>(CONNECTION),
-            dialect: matches.get_str(DIALECT).and_then(dialect_named),
+            dialect: matches
+                .get_str(DIALECT)
+                .and_then(|name| dialect_named(name)),
             choices: choices_in(matches, format),
             has_places: matches.get_flag(PLACES),
         },

@@ -26,7 +26,7 @@ const MARKS: [(&str, &str, &str); 15] = [
 
 /// Whether the dialect of such a log is the one of this name.
 fn is_of_dialect(said: &str, schema: &str, name: &str) -> bool {
-    dialect_of(&["a title", said, ""], schema).name == name
+    dialect_of(&["a title", said, ""], schema).stack.name() == name
 }
 
 /// Whether each log has its dialect.

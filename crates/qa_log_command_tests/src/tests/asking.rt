@@ -74,7 +74,7 @@ fn has_all(request: &Request) -> bool {
 /// Whether a kind of log of this name was given.
 fn has_dialect(request: &Request, name: &str) -> bool {
     match &request.dialect {
-        Some(dialect) => dialect.name == name,
+        Some(dialect) => dialect.stack.name() == name,
         None => false,
     }
 }
