@@ -1,5 +1,5 @@
 //! The packets in flight of a packet number space, as the log tells of them.
-ghost use Rattle.std.specs.Prelude.{◌≡◌, ◌≤◌, [], None, OnErr, OnOk, filter, find, not, true};
+ghost use Rattle.std.specs.Prelude.{◌≡◌, ◌≤◌, ◌↔◌, [], IsTrue, None, OnErr, OnOk, filter, find, not};
 ghost use Rattle.std.specs.Ordering.{nat_cmp};
 ghost use Rattle.std.specs.BTreeMap.{insert_entry};
 ghost use Rattle.qa_base.specs.values.Limits.{max_packet_size};
@@ -126,7 +126,7 @@ impl Flight {
 
     /// Whether there is none.
     pub fn is_empty(&self) -> bool
-        ensures { result ≡ true → self.now ≡ [] }
+        ensures { IsTrue result ↔ (self.now ≡ []) }
     {
         self.packets.is_empty()
     }
