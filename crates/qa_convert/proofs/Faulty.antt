@@ -170,3 +170,11 @@ is_json head c j (Err (no_record.Event e)) is not = let no : Err (no_record.Even
 is_json head c j (Err (no_record.Time t)) is not = let no : Err (no_record.Time t) ≡ Err no_record.NotJson = not in cc
 is_json head c j (Err no_record.NotJson) is not = is
 is_json head c j (Err no_record.OutOfMemory) is not = let no : Err no_record.OutOfMemory ≡ Err no_record.NotJson = not in cc
+
+pub is_json_of : {A : Type 0} (head : Head) (c : Numbering) (j : Json) (r : Result A NoMore) → IfErr r (OfRecord (IsRecordFault head c j)) → r ≡ Err (more.Record no_record.NotJson) → ⊥
+is_json_of head c j (Ok a) is not = let no : Ok a ≡ Err (more.Record no_record.NotJson) = not in cc
+is_json_of head c j (Err (more.Line l)) is not = let no : Err (more.Line l) ≡ Err (more.Record no_record.NotJson) = not in cc
+is_json_of head c j (Err (more.Record (no_record.Event e))) is not = let no : Err (more.Record (no_record.Event e)) ≡ Err (more.Record no_record.NotJson) = not in cc
+is_json_of head c j (Err (more.Record (no_record.Time t))) is not = let no : Err (more.Record (no_record.Time t)) ≡ Err (more.Record no_record.NotJson) = not in cc
+is_json_of head c j (Err (more.Record no_record.NotJson)) is not = is
+is_json_of head c j (Err (more.Record no_record.OutOfMemory)) is not = let no : Err (more.Record no_record.OutOfMemory) ≡ Err (more.Record no_record.NotJson) = not in cc

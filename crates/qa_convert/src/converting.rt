@@ -1,5 +1,5 @@
 //! The second reading of a log: its texts, one after another, as the lines of a trace.
-ghost use Rattle.std.specs.Prelude.{◌≡◌, ◌∷◌, [], IfErr, IfOk, List, None, OnOk, Option, Some};
+ghost use Rattle.std.specs.Prelude.{◌≡◌, ◌∷◌, [], Err, IfErr, IfOk, List, None, OnOk, Option, Some};
 ghost use Rattle.std.specs.Prelude.{false};
 ghost use Rattle.json.specs.Json.{Json, document};
 ghost use Rattle.json.specs.Find.{BeginsWith, Finds};
@@ -17,7 +17,9 @@ ghost use Rattle.qa_convert.specs.Rules.{rules_after, rules_of};
 ghost use Rattle.qa_convert.specs.Sources.{sources_in};
 ghost use Rattle.qa_convert.specs.Taking.{Begins, Goes, Takes, TakesUnread, progress_of, told_of};
 ghost use Rattle.qa_convert.specs.Telling.{told_in};
+ghost use Rattle.qa_convert.specs.declared.converting.NoMore.TheVariants as no_more;
 ghost use Rattle.qa_convert.specs.declared.event.Said.{Said as Kept};
+ghost use Rattle.qa_convert.specs.declared.surveying.NoRecord.TheVariants as no_record;
 
 use crate::conversion::{Conversion, Terms};
 use crate::event::{At, LoggedEvent, Said, losses_of};
@@ -125,13 +127,15 @@ impl Converting {
         }
     }
 
-    /// Takes the next text, which begins there. After an error it is of no use.
+    /// Takes the next text, which begins there. `NotJson` leaves all as it was; after any other
+    /// error it is of no use.
     pub(crate) fn push(&mut self, room: &mut Room, text: &[u8], place: Place) -> Result<(), NoMore>
         ensures takes { OnOk result ((j : Json) × (document text.now ≡ Some j)
             × Takes j place (progress_of self.old) (told_of self.old) (progress_of self.new)
             (told_of self.new)) }
         ensures fault { IfErr result (OfRecord (IsTextFault self.old.head
             (numbering_of self.old.cursor.connections) text.now)) }
+        ensures json { result ≡ Err (no_more.Record no_record.NotJson) → self.new ≡ self.old }
     {
         let Ok(text) = str::from_utf8(text) else {
             return Err(NoMore::Record(NoRecord::NotJson));

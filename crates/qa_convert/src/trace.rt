@@ -253,13 +253,14 @@ impl Model for SecondReading {
 }
 
 impl SecondReading {
-    /// Takes the next text, which begins there. After an error it is of no use but for the lines
-    /// that were written.
+    /// Takes the next text, which begins there. `NotJson` leaves all as it was; after any other
+    /// error it is of no use but for the lines that were written.
     pub fn push(&mut self, text: &[u8], place: Place) -> Result<(), NoMore>
         ensures takes { OnOk result ((j : Json) × (document text.now ≡ Some j)
             × Takes j place self.old.2 (told self.old.1) self.new.2 (told self.new.1)) }
         ensures fault { IfErr result (OfRecord (IsTextFault self.old.2.head
             self.old.2.connections text.now)) }
+        ensures json { result ≡ Err (NoMore.Record NoRecord.NotJson) → self.new ≡ self.old }
         ensures line { self.new.0 ≡ self.old.0 }
     {
         let result = self.converting.push(&mut self.room, text, place);
