@@ -29,9 +29,9 @@ pub struct Lines<'a, F> {
 
 impl<'a, F> Model for Lines<'a, F> {
     ghost use Rattle.std.specs.Prelude.{Bool};
-    ghost use Rattle.qa_logs.specs.Tracing.{Told};
+    ghost use Rattle.qa_logs.specs.Tracing.{Traced};
 
-    ghost Value = { Told × Bool };
+    ghost Value = { Traced × Bool };
 
     ghost view = { λ l. (l.trace, l.is_ended) };
 }

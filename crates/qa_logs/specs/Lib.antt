@@ -1,3 +1,6 @@
 pub mod Cutting
 pub mod Files
+pub mod Records
+pub mod Surveying
 pub mod Tracing
+pub mod Unread

@@ -1,7 +1,14 @@
 //! A log in parts, cut into its texts, each of which is handed on.
-ghost use Rattle.std.specs.Prelude.{◌≡◌, None, OnOk};
-ghost use Rattle.qa_logs.specs.Cutting.{IsOpen};
+ghost use Rattle.std.specs.Prelude.{◌≡◌, IfOk, None, OnOk, Some, false, true};
+ghost use Rattle.qa_logs.specs.Cutting.{Ends, Feeds, Given, HandsAll, HandsOne, IsOpen, NextRecord};
+ghost use Rattle.qa_logs.specs.Cutting.{NextText, given};
+ghost use Rattle.qa_logs.specs.Cutting as cuts;
 ghost use Rattle.qa_logs.specs.declared.cutting.Cutter.TheVariants as cutters;
+ghost use Rattle.qa_logs.specs.declared.cutting.Wants.{Wants as Wish};
+ghost use Rattle.qa_qlog.specs.Cutting as cutting;
+ghost use Rattle.qa_qlog.specs.Holding as holding;
+ghost use Rattle.qa_qlog.specs.Standing as standing;
+ghost use Rattle.qa_qlog.specs.Taking as taking;
 
 use crate::fault::LogFault;
 use qa_convert::Place;
@@ -42,8 +49,12 @@ pub(crate) struct LogText<'a> {
 
 /// Takes the texts of a log, one after another.
 pub(crate) trait Taker {
+    // What it is before and after a text, and whether it needs more.
+    ghost takes: { Self → Given → Wish → Self → Type 0 };
+
     /// Takes the next text, and says whether it needs more.
-    fn take(&mut self, text: LogText<'_>) -> Result<Wants, LogFault>;
+    fn take(&mut self, text: LogText<'_>) -> Result<Wants, LogFault>
+        ensures { IfOk result (λ wants. takes self.old (given text.entry) wants self.new) };
 }
 
 /// Takes no text.
@@ -51,6 +62,8 @@ pub(crate) trait Taker {
 pub(crate) struct NoTaker {}
 
 impl Taker for NoTaker {
+    ghost takes = { λ old text wants new. Unit {0} };
+
     fn take(&mut self, _text: LogText<'_>) -> Result<Wants, LogFault> {
         Ok(Wants::More)
     }
@@ -84,7 +97,9 @@ impl Model for Parts {
 
 impl Parts {
     /// A log of this form of which nothing came yet. Takes no memory.
-    pub(crate) fn new(alloc: Global, form: Form) -> Parts {
+    pub(crate) fn new(alloc: Global, form: Form) -> Parts
+        ensures { result ≡ Some (cuts.fresh form) }
+    {
         let cutter = match form {
             Form::Texts(mark) => Cutter::Texts(Texts::new(alloc, mark), mark),
             Form::Document => Cutter::Document(DocumentCutter::new(alloc)),
@@ -95,7 +110,9 @@ impl Parts {
     }
 
     /// Takes the next part, and hands on the texts that end in it.
-    pub(crate) fn feed<T: Taker>(&mut self, part: &[u8], taker: &mut T) -> Result<Wants, LogFault> {
+    pub(crate) fn feed<T: Taker>(&mut self, part: &[u8], taker: &mut T) -> Result<Wants, LogFault>
+        ensures { IfOk result (Feeds T.takes self.old part.now taker.old self.new taker.new) }
+    {
         match self.cutter.take() {
             Some(Cutter::Texts(texts, mark)) => self.feed_texts(texts, mark, part, taker),
             Some(Cutter::Document(document)) => self.feed_document(document, part, taker),
@@ -112,13 +129,13 @@ impl Parts {
         taker: &mut T,
     ) -> Result<Wants, LogFault>
         requires { IsOpen (cutters.Texts texts mark) }
+        ensures { IfOk result (Feeds T.takes (Some (cutters.Texts texts mark)) part.now taker.old
+            self.new taker.new) }
     {
         let mut texts = texts;
         texts.feed(part)?;
         let wants = take_texts(&mut texts, mark, false, taker)?;
-        if wants == Wants::More {
-            self.cutter = Some(Cutter::Texts(texts, mark));
-        }
+        self.cutter = left_by(wants, Cutter::Texts(texts, mark));
         Ok(wants)
     }
 
@@ -130,18 +147,21 @@ impl Parts {
         taker: &mut T,
     ) -> Result<Wants, LogFault>
         requires { IsOpen (cutters.Document document) }
+        ensures { IfOk result (Feeds T.takes (Some (cutters.Document document)) part.now taker.old
+            self.new taker.new) }
     {
         let mut document = document;
         document.feed(part)?;
         let wants = take_records(&mut document, taker)?;
-        if wants == Wants::More {
-            self.cutter = Some(Cutter::Document(document));
-        }
+        self.cutter = left_by(wants, Cutter::Document(document));
         Ok(wants)
     }
 
     /// The log ends: hands on its last text, if that has no mark behind it.
-    pub(crate) fn end<T: Taker>(&mut self, taker: &mut T) -> Result<(), LogFault> {
+    pub(crate) fn end<T: Taker>(&mut self, taker: &mut T) -> Result<(), LogFault>
+        ensures ends { OnOk result (Ends T.takes self.old taker.old taker.new) }
+        ensures none { self.new ≡ None }
+    {
         if let Some(Cutter::Texts(texts, mark)) = self.cutter.take() {
             let mut texts = texts;
             texts.close();
@@ -161,6 +181,16 @@ impl Parts {
     }
 }
 
+/// What is left of a log: nothing, if no more of it is wanted.
+fn left_by(wants: Wants, cutter: Cutter) -> Option<Cutter>
+    ensures { result ≡ cuts.left_by wants cutter }
+{
+    match wants {
+        Wants::More => Some(cutter),
+        Wants::Nothing => None,
+    }
+}
+
 /// Hands on the texts that are ready.
 fn take_texts<T: Taker>(
     texts: &mut Texts,
@@ -168,18 +198,18 @@ fn take_texts<T: Taker>(
     is_last: bool,
     taker: &mut T,
 ) -> Result<Wants, LogFault>
+    ensures hands { IfOk result (HandsAll (NextText mark is_last) taking.Lacks T.takes texts.old
+        taker.old texts.new taker.new) }
     ensures whole { OnOk result (texts.new.uncut.refused ≡ None) }
     ensures closed { OnOk result (texts.new.uncut.closed ≡ texts.old.uncut.closed) }
 {
-    'texts: for _i in 0..u64::MAX {
+    'texts: loop {
         match take_text(texts, mark, is_last, taker)? {
             None => return Ok(Wants::More),
             Some(Wants::More) => {}
             Some(Wants::Nothing) => return Ok(Wants::Nothing),
         }
     }
-    take_text(texts, mark, is_last, taker)?;
-    Ok(Wants::Nothing)
 }
 
 /// Hands on the next text, if one is ready.
@@ -189,6 +219,8 @@ fn take_text<T: Taker>(
     is_last: bool,
     taker: &mut T,
 ) -> Result<Option<Wants>, LogFault>
+    ensures hands { IfOk result (HandsOne (NextText mark is_last) taking.Lacks T.takes texts.old
+        taker.old texts.new taker.new) }
     ensures whole { OnOk result (texts.new.uncut.refused ≡ None) }
     ensures closed { OnOk result (texts.new.uncut.closed ≡ texts.old.uncut.closed) }
 {
@@ -213,17 +245,17 @@ fn take_text<T: Taker>(
 
 /// Hands on the records that are ready.
 fn take_records<T: Taker>(document: &mut DocumentCutter, taker: &mut T) -> Result<Wants, LogFault>
-    ensures { OnOk result (document.new.refused ≡ None) }
+    ensures hands { IfOk result (HandsAll NextRecord cutting.Lacks T.takes document.old taker.old
+        document.new taker.new) }
+    ensures whole { OnOk result (document.new.refused ≡ None) }
 {
-    'records: for _i in 0..u64::MAX {
+    'records: loop {
         match take_record(document, taker)? {
             None => return Ok(Wants::More),
             Some(Wants::More) => {}
             Some(Wants::Nothing) => return Ok(Wants::Nothing),
         }
     }
-    take_record(document, taker)?;
-    Ok(Wants::Nothing)
 }
 
 /// Hands on the next record, if one is ready.
@@ -231,7 +263,9 @@ fn take_record<T: Taker>(
     document: &mut DocumentCutter,
     taker: &mut T,
 ) -> Result<Option<Wants>, LogFault>
-    ensures { OnOk result (document.new.refused ≡ None) }
+    ensures hands { IfOk result (HandsOne NextRecord cutting.Lacks T.takes document.old taker.old
+        document.new taker.new) }
+    ensures whole { OnOk result (document.new.refused ≡ None) }
 {
     match document.next_record() {
         Ok(Some(record)) => {

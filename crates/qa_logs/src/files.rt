@@ -32,7 +32,7 @@ fn has_key_of_logs(bytes: &[u8]) -> bool
 }
 
 /// Whether the text is somewhere in the bytes.
-fn has(bytes: &[u8], text: &[u8]) -> bool
+pub(crate) fn has(bytes: &[u8], text: &[u8]) -> bool
     ensures { Decides result (Has bytes.now text.now) }
 {
     memmem::find(bytes, text).is_some()

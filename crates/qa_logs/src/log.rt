@@ -1,4 +1,8 @@
 //! What a log says beside its records.
+ghost use Rattle.std.specs.Prelude.{◌≡◌, IfOk};
+ghost use Rattle.qa_logs.specs.Records.{has_many};
+ghost use Rattle.qa_logs.specs.Surveying.{IsAsked};
+
 use crate::choosing::{Chosen, Request, choose};
 use crate::cutting::Form;
 use crate::fault::LogFault;
@@ -47,7 +51,9 @@ impl Log {
     }
 
     /// The first reading of the records of one of its traces.
-    pub fn survey(&self, request: Request) -> Result<Surveying, LogFault> {
+    pub fn survey(&self, request: Request) -> Result<Surveying, LogFault>
+        ensures { IfOk result (λ surveying. IsAsked self.now request surveying) }
+    {
         let roles = self.roles()?;
         let chosen = choose(self.alloc, roles.as_slice(), &request)?;
         let dialect = match request.dialect {
@@ -65,7 +71,9 @@ impl Log {
     }
 
     /// Whether its first text is its head, and no record.
-    pub(crate) fn has_first_text(&self) -> bool {
+    pub(crate) fn has_first_text(&self) -> bool
+        ensures { result ≡ has_many self.now.form }
+    {
         self.form != Form::Document
     }
 

@@ -45,6 +45,8 @@ struct Kept {
 }
 
 impl Taker for First {
+    ghost takes = { λ old text wants new. Unit {0} };
+
     fn take(&mut self, text: LogText<'_>) -> Result<Wants, LogFault> {
         self.text = Some(Kept {
             bytes: Vec::from_slice(self.alloc, text.bytes)?,
@@ -101,6 +103,8 @@ impl Opening {
 }
 
 impl Reading for Opening {
+    ghost feeds = { λ old part wants new. Unit {0} };
+
     fn feed(&mut self, part: &[u8]) -> Result<Wants, LogFault> {
         if let Some(found) = &mut self.found {
             return found.feed(part);

@@ -1,4 +1,12 @@
 //! The first reading of the records of a log.
+ghost use Rattle.std.specs.Prelude.{◌≡◌, IfOk};
+ghost use Rattle.qa_convert.specs.Surveying.{unread};
+ghost use Rattle.qa_logs.specs.Cutting as cutting;
+ghost use Rattle.qa_logs.specs.Records.{ReadsText};
+ghost use Rattle.qa_logs.specs.Surveying.{Feeds, Leads, SkipsText, Starts, SurveysRecord};
+ghost use Rattle.qa_logs.specs.Surveying.{SurveysText, records_of};
+ghost use Rattle.qa_logs.specs.Unread.{IsNotJson};
+
 use crate::Reading;
 use crate::choosing::{Chosen, numbered};
 use crate::cutting::{LogText, Parts, Taker, Wants};
@@ -8,8 +16,10 @@ use crate::tracing::Trace;
 use crate::unread::{Instead, Unread};
 use qa_convert::{Asked, FirstReading, NoRecord, NoTrace};
 use qa_qlog::Head;
+use std::marker::Model;
 
-/// The first reading of the records of a log. Nothing of a trace is written yet.
+/// The first reading of the records of a log. Nothing of a trace is written yet. Contracts see what
+/// is left of the log, which of its traces was chosen, and what was found of its records.
 #[derive(Drop)]
 pub struct Surveying {
     parts: Parts,
@@ -28,9 +38,23 @@ struct Surveyed {
     is_at_head: bool,
 }
 
+impl Model for Surveying {
+    ghost use Rattle.qa_logs.specs.Surveying.{Begun};
+
+    ghost Value = { Begun };
+
+    ghost view = { λ s. record {
+      cutter = s.parts;
+      chosen = s.chosen;
+      records = s.records;
+    } };
+}
+
 impl Surveying {
     /// Before the first part of a log, of which this trace is chosen, and has this head.
-    pub(crate) fn new(log: &Log, chosen: Chosen, head: Head, asked: Asked) -> Surveying {
+    pub(crate) fn new(log: &Log, chosen: Chosen, head: Head, asked: Asked) -> Surveying
+        ensures { Starts log.now chosen (asked, unread head asked.connection asked.role) result }
+    {
         Surveying {
             parts: Parts::new(log.alloc, log.form),
             chosen,
@@ -45,7 +69,9 @@ impl Surveying {
 
     /// The log ends, or no more of it is needed: the second reading of its records, by which the
     /// trace is written.
-    pub fn end(self, log: &Log) -> Result<Trace, LogFault> {
+    pub fn end(self, log: &Log) -> Result<Trace, LogFault>
+        ensures { IfOk result (λ trace. Leads log.now self trace) }
+    {
         let Surveying {
             parts,
             chosen,
@@ -77,12 +103,16 @@ fn why(fault: NoTrace, unread: &Unread) -> LogFault {
 }
 
 impl Reading for Surveying {
+    ghost feeds = { λ old part wants new. Feeds part old wants new };
+
     fn feed(&mut self, part: &[u8]) -> Result<Wants, LogFault> {
         self.parts.feed(part, &mut self.records)
     }
 }
 
 impl Taker for Surveyed {
+    ghost takes = { SurveysText };
+
     fn take(&mut self, text: LogText<'_>) -> Result<Wants, LogFault> {
         if self.is_at_head || text.trace != self.trace {
             self.is_at_head = false;
@@ -98,7 +128,13 @@ impl Taker for Surveyed {
 
 impl Surveyed {
     /// Takes a text that is not JSON.
-    fn pass(&mut self, text: LogText<'_>) -> Result<Wants, LogFault> {
+    fn pass(&mut self, text: LogText<'_>) -> Result<Wants, LogFault>
+        ensures instead { IsNotJson text.entry.bytes.now → IfOk result (λ wants.
+            ReadsText SurveysRecord SkipsText (cutting.given text.entry) (records_of self.old) wants
+            (records_of self.new)) }
+        ensures trace { self.new.trace ≡ self.old.trace }
+        ensures is_at_head { self.new.is_at_head ≡ self.old.is_at_head }
+    {
         match self.unread.take(text)? {
             Instead::Ends => Ok(Wants::Nothing),
             Instead::Passes(_) => {

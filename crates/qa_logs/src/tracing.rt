@@ -1,7 +1,11 @@
 //! The second reading of the records of a log, by which its trace is written.
-ghost use Rattle.std.specs.Prelude.{◌≡◌, ◌⊎◌};
+ghost use Rattle.std.specs.Prelude.{◌≡◌, ◌⊎◌, IfOk, OnOk};
 ghost use Rattle.qa_convert.specs.OwnKeys.{AreEventLines, IsHeaderLine};
-ghost use Rattle.qa_logs.specs.Tracing.{given, shown};
+ghost use Rattle.qa_logs.specs.Cutting as cutting;
+ghost use Rattle.qa_logs.specs.Records.{ReadsText};
+ghost use Rattle.qa_logs.specs.Tracing.{Closed, Feeds, SkipsText, Starts, WritesLast};
+ghost use Rattle.qa_logs.specs.Tracing.{WritesRecord, WritesText, given, records_of, shown};
+ghost use Rattle.qa_logs.specs.Unread.{IsNotJson};
 
 use crate::Reading;
 use crate::choosing::Chosen;
@@ -13,8 +17,9 @@ use qa_convert::{NoLine, NoMore, NoRecord, SecondReading};
 use std::alloc::{AllocError, Global};
 use std::marker::Model;
 
-/// The second reading of the records of a log, by which its trace is written. Contracts see the
-/// lines that were written and not given away, and whether the header is one of them.
+/// The second reading of the records of a log, by which its trace is written. Contracts see whether
+/// the header was given away, what is left of the log, whether it is torn off, and the lines that
+/// were written.
 #[derive(Drop)]
 pub struct Trace {
     alloc: Global,
@@ -41,16 +46,23 @@ struct Written {
 }
 
 impl Model for Trace {
-    ghost use Rattle.qa_logs.specs.Tracing.{Told};
+    ghost use Rattle.qa_logs.specs.Tracing.{Traced};
 
-    ghost Value = { Told };
+    ghost Value = { Traced };
 
-    ghost view = { λ t. (t.has_header, (t.records.second.0, t.records.second.1)) };
+    ghost view = { λ t. record {
+      has_header = t.has_header;
+      cutter = t.parts;
+      is_torn = t.is_torn;
+      records = t.records;
+    } };
 }
 
 impl Trace {
     /// Before the first part of a log whose first reading this was.
-    pub(crate) fn new(log: &Log, chosen: Chosen, connections: u64, second: SecondReading) -> Trace {
+    pub(crate) fn new(log: &Log, chosen: Chosen, connections: u64, second: SecondReading) -> Trace
+        ensures { Starts log.now chosen.trace second result }
+    {
         Trace {
             alloc: log.alloc,
             parts: Parts::new(log.alloc, log.form),
@@ -69,14 +81,11 @@ impl Trace {
 
     /// The log ends, or no more of it is needed: the last lines are written. An error leaves the
     /// lines that were written before it.
-    pub fn end(&mut self) -> Result<(), LogFault> {
+    pub fn end(&mut self) -> Result<(), LogFault>
+        ensures { OnOk result (Closed self.old self.new) }
+    {
         self.parts.end(&mut self.records)?;
-        let is_torn = self.is_torn || self.records.unread.torn.is_some();
-        match self.records.second.end(is_torn) {
-            Ok(()) => Ok(()),
-            Err(NoLine::OutOfMemory) => Err(LogFault::OutOfMemory),
-            Err(fault) => Err(LogFault::LastLine(fault)),
-        }
+        self.records.end(self.is_torn)
     }
 
     /// The lines that were written and not given away, each ended by LF: first that of the header
@@ -145,12 +154,16 @@ fn others(
 }
 
 impl Reading for Trace {
+    ghost feeds = { λ old part wants new. Feeds part old wants new };
+
     fn feed(&mut self, part: &[u8]) -> Result<Wants, LogFault> {
         self.parts.feed(part, &mut self.records)
     }
 }
 
 impl Taker for Written {
+    ghost takes = { WritesText };
+
     fn take(&mut self, text: LogText<'_>) -> Result<Wants, LogFault> {
         if self.is_at_head || text.trace != self.trace {
             self.is_at_head = false;
@@ -166,13 +179,31 @@ impl Taker for Written {
 
 impl Written {
     /// Takes a text that is not JSON.
-    fn pass(&mut self, text: LogText<'_>) -> Result<Wants, LogFault> {
+    fn pass(&mut self, text: LogText<'_>) -> Result<Wants, LogFault>
+        ensures instead { IsNotJson text.entry.bytes.now → IfOk result (λ wants.
+            ReadsText WritesRecord SkipsText (cutting.given text.entry) (records_of self.old) wants
+            (records_of self.new)) }
+        ensures trace { self.new.trace ≡ self.old.trace }
+        ensures is_at_head { self.new.is_at_head ≡ self.old.is_at_head }
+    {
         let Instead::Passes(is_report) = self.unread.take(text)? else {
             return Ok(Wants::Nothing);
         };
         match self.second.push_unread(text.place, is_report) {
             Ok(()) => Ok(Wants::More),
             Err(fault) => Err(LogFault::of_line(text.place, fault)),
+        }
+    }
+
+    /// The log ended, which is torn off if this or one of its texts says so: the last lines are
+    /// written.
+    fn end(&mut self, is_torn: bool) -> Result<(), LogFault>
+        ensures { OnOk result (WritesLast is_torn self.old self.new) }
+    {
+        match self.second.end(is_torn || self.unread.torn.is_some()) {
+            Ok(()) => Ok(()),
+            Err(NoLine::OutOfMemory) => Err(LogFault::OutOfMemory),
+            Err(fault) => Err(LogFault::LastLine(fault)),
         }
     }
 }

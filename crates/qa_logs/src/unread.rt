@@ -1,15 +1,16 @@
 //! Texts of a log that are not JSON: what is done with the log then (RFC 7464, section 2.3).
+ghost use Rattle.std.specs.Prelude.{◌≡◌, Decides, IfOk, None};
+ghost use Rattle.qa_logs.specs.Cutting.{given};
+ghost use Rattle.qa_logs.specs.Unread.{DoneWith, IsDecisive};
+
 use crate::cutting::LogText;
 use crate::fault::LogFault;
+use crate::files::has;
 use qa_convert::{NoRecord, Place};
 use std::alloc::{AllocError, Global};
 
 /// Of how many texts that were passed over the lines are told.
 const MOST_TOLD: u64 = 3;
-/// What a text may name that decides what follows it.
-const DECISIVE: [&[u8]; 4] = [b"packet", b"timer", b"key_", b"parameters_set"];
-/// What a text names that is a report.
-const REPORT: &[u8] = b"metrics";
 
 /// Where a log of many texts ends before its file does.
 #[derive(Clone, Copy)]
@@ -42,7 +43,9 @@ pub(crate) struct Unread {
 
 impl Unread {
     /// None. Takes no memory.
-    pub(crate) fn new(alloc: Global) -> Unread {
+    pub(crate) fn new(alloc: Global) -> Unread
+        ensures { result.torn ≡ None }
+    {
         Unread {
             torn: None,
             places: Vec::new(alloc),
@@ -52,12 +55,14 @@ impl Unread {
 
     /// What is done with a text that is not JSON. In a log that is one object it is a fault: what
     /// follows it cannot be told apart from it.
-    pub(crate) fn take(&mut self, text: LogText<'_>) -> Result<Instead, LogFault> {
+    pub(crate) fn take(&mut self, text: LogText<'_>) -> Result<Instead, LogFault>
+        ensures { IfOk result (λ instead. DoneWith (given text.entry) self.old.torn instead
+            self.new.torn) }
+    {
         if let Place::Byte(_) = text.place {
             return Err(LogFault::Record(text.place, NoRecord::NotJson));
         }
-        let is_decisive = DECISIVE.iter().any(|name| names(text.bytes, name));
-        if !text.is_whole || is_decisive {
+        if !text.is_whole || is_decisive(text.bytes) {
             self.torn = Some(TornAt {
                 place: text.place,
                 is_broken: text.is_whole,
@@ -65,11 +70,13 @@ impl Unread {
             return Ok(Instead::Ends);
         }
         self.pass(text.place)?;
-        Ok(Instead::Passes(names(text.bytes, REPORT)))
+        Ok(Instead::Passes(has(text.bytes, b"metrics")))
     }
 
     /// Passes over a text.
-    fn pass(&mut self, place: Place) -> Result<(), AllocError> {
+    fn pass(&mut self, place: Place) -> Result<(), AllocError>
+        ensures { self.new.torn ≡ self.old.torn }
+    {
         self.count = self.count.saturating_add(1);
         if self.count <= MOST_TOLD {
             self.places.push(place)?;
@@ -107,12 +114,12 @@ impl TornAt {
     }
 }
 
-/// Whether a text has a name.
-fn names(text: &[u8], name: &[u8]) -> bool {
-    for at in 0..text.len() {
-        if text[at..].starts_with(name) {
-            return true;
-        }
-    }
-    false
+/// Whether a text names what decides what follows it.
+fn is_decisive(text: &[u8]) -> bool
+    ensures { Decides result (IsDecisive text.now) }
+{
+    has(text, b"packet")
+        || has(text, b"timer")
+        || has(text, b"key_")
+        || has(text, b"parameters_set")
 }

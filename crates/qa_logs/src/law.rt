@@ -1,0 +1,28 @@
+//! That a reading takes the texts of the bytes of its log, whatever the parts are in which they
+//! come.
+ghost use Rattle.std.specs.Prelude.{◌≡◌, ◌++◌, ℕ, Bool, List, map};
+ghost use Rattle.qa_logs.specs.Cutting.{Given, NextRecord, NextText, Steps, of_record, of_text};
+ghost use Rattle.qa_qlog.specs.Cuts.{Cut, Uncut};
+ghost use Rattle.qa_qlog.specs.Holding.{Holds};
+ghost use Rattle.qa_qlog.specs.Standing.{Stands};
+ghost use Rattle.qa_qlog.specs.Texts.{Numbered, Rest};
+ghost use Rattle.qa_qlog.specs.declared.texts.Mark.{Mark as AMark};
+
+use qa_qlog::{cuts_whatever_the_parts, texts_whatever_the_parts};
+
+/// The law of what is handed on. If the texts that were handed on before are those of the bytes of
+/// a log, in their order, none left out and none twice, so they are with those that come next.
+/// `texts_whatever_the_parts` and `cuts_whatever_the_parts` say the same of a part that comes, and
+/// of the end.
+pub fn readings_take_what_the_log_has()
+    ensures texts { (mark : AMark) (is_last : Bool) (old new : Rest) (ts : List Given)
+        (taken : List Numbered) (log : List ℕ) → Steps (NextText mark is_last) old ts new
+        → Stands taken old log → (more : List Numbered)
+        × (ts ≡ map (of_text mark is_last) more) × Stands (taken ++ more) new log }
+    ensures records { (old new : Uncut) (ts : List Given) (taken : List Cut) (log : List ℕ)
+        → Steps NextRecord old ts new → Holds taken old log → (more : List Cut)
+        × (ts ≡ map of_record more) × Holds (taken ++ more) new log }
+{
+    texts_whatever_the_parts();
+    cuts_whatever_the_parts();
+}
