@@ -48,7 +48,7 @@ wrote_nothing : (a : Option (List ℕ)) (n : ℕ) → Writes false a a n n []
 wrote_nothing a n = record { wrote = Appends-nil a; counted = refl }
 
 -- a text after another
-wrote_more : (failed : Bool) (a b c : Option (List ℕ)) (n n1 n2 : ℕ) (front rest : List ℕ) → Writes false a b n n1 front → Writes failed b c n1 n2 rest
+pub wrote_more : (failed : Bool) (a b c : Option (List ℕ)) (n n1 n2 : ℕ) (front rest : List ℕ) → Writes false a b n n1 front → Writes failed b c n1 n2 rest
     → Writes failed a c n n2 (front ++ rest)
 wrote_more false a b c n n1 n2 front rest first then = record {
   wrote = Appends-trans a b c front rest first.wrote then.wrote;

@@ -1,4 +1,5 @@
 pub mod Ending
 pub mod Failing
 pub mod Handing
+pub mod Reading
 pub mod Written

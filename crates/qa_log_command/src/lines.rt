@@ -1,10 +1,12 @@
 //! The lines of the trace of a log, as they are written and as they are audited.
 
-ghost use Rattle.std.specs.Prelude.{◌≡◌, ◌⊎◌, false, true, not, IfOk};
+ghost use Rattle.std.specs.Prelude.{◌≡◌, ◌⊎◌, false, true, not, ℕ, List, IfOk, Ok, OnOk};
 ghost use Rattle.std.specs.Result.{is_ok};
 ghost use Rattle.qa_convert.specs.OwnKeys.{AreEventLines, IsHeaderLine};
 ghost use Rattle.qa_log_command.specs.Failing.{fails_to_write};
-ghost use Rattle.qa_logs.specs.Tracing.{shown};
+ghost use Rattle.qa_log_command.specs.Reading.{GoesOn, IsBegun, TakesPart};
+ghost use Rattle.qa_logs.specs.Tracing.{Closed, given, shown};
+ghost use Rattle.qa_logs.specs.Whole.{FeedsEach};
 
 use crate::bytes::{Bytes, Parts};
 use crate::failure::Failure;
@@ -55,6 +57,8 @@ impl<'a, F: Read + Drop> Lines<'a, F> {
         ensures more { IfOk result (λ has_more. has_more ≡ not self.old.1) }
         ensures last { is_ok result ≡ false → self.new.1 ≡ true }
         ensures stays { self.old.1 ≡ true → self.new.1 ≡ true }
+        ensures goes { result ≡ Ok true → GoesOn self.old.0 self.new.0 }
+        ensures done { result ≡ Ok false → self.new.0 ≡ given self.old.0 }
     {
         self.passed = self.count();
         self.trace.clear();
@@ -62,12 +66,35 @@ impl<'a, F: Read + Drop> Lines<'a, F> {
             return Ok(false);
         }
         self.is_ended = true;
-        if self.parts.advance()? && self.trace.feed(self.parts.part())? == Wants::More {
+        let Wants::Nothing = self.take_part()? else {
             self.is_ended = false;
-        } else {
-            self.trace.end()?;
-        }
+            return Ok(true);
+        };
+        self.close()?;
         Ok(true)
+    }
+
+    /// The log ends, or no more of it is needed: the last lines are written.
+    fn close(&mut self) -> Result<(), Failure>
+        ensures unwritten { fails_to_write result ≡ false }
+        ensures closes { OnOk result (Closed self.old.0 self.new.0) }
+        ensures stays { self.new.1 ≡ self.old.1 }
+    {
+        self.trace.end()?;
+        Ok(())
+    }
+
+    /// Takes the next part of the log, and says whether more of it is needed; if there is none, no
+    /// more is.
+    fn take_part(&mut self) -> Result<Wants, Failure>
+        ensures unwritten { fails_to_write result ≡ false }
+        ensures takes { IfOk result (λ wants. TakesPart self.old.0 wants self.new.0) }
+        ensures stays { self.new.1 ≡ self.old.1 }
+    {
+        if !self.parts.advance()? {
+            return Ok(Wants::Nothing);
+        }
+        Ok(self.trace.feed(self.parts.part())?)
     }
 
     /// How many lines there are so far, with those that `text` returns.
@@ -81,7 +108,9 @@ impl<'a, F: Read + Drop> Lines<'a, F> {
     }
 
     /// The trace, with what is told of it.
-    pub fn into_trace(self) -> Trace {
+    pub fn into_trace(self) -> Trace
+        ensures { result ≡ self.entry.0 }
+    {
         let Lines { trace, .. } = self;
         trace
     }
@@ -95,7 +124,9 @@ pub fn lines_of<'a, R: Files>(
     bytes: &'a Bytes<'_>,
     request: Request,
 ) -> Result<Lines<'a, R::File>, Failure>
-    ensures { fails_to_write result ≡ false }
+    ensures unwritten { fails_to_write result ≡ false }
+    ensures begun { IfOk result (λ lines. IsBegun request lines.0) }
+    ensures goes { IfOk result (λ lines. lines.1 ≡ false) }
 {
     let mut opening = Opening::new(alloc);
     read(&mut bytes.parts(rt, alloc)?, &mut opening)?;
@@ -112,15 +143,16 @@ pub fn lines_of<'a, R: Files>(
 
 /// Reads a log part by part, up to its end, or until no more of it is wanted.
 fn read<F: Read, T: Reading>(parts: &mut Parts<'_, F>, reading: &mut T) -> Result<(), Failure>
-    ensures { fails_to_write result ≡ false }
+    ensures unwritten { fails_to_write result ≡ false }
+    ensures feeds { IfOk result (λ _. (fed : List (List ℕ))
+        × FeedsEach T.feeds reading.old fed reading.new) }
 {
     'parts: for _i in 0..u64::MAX {
         if !parts.advance()? {
-            break;
+            return Ok(());
         }
-        match reading.feed(parts.part())? {
-            Wants::More => {}
-            Wants::Nothing => break,
+        if reading.feed(parts.part())? == Wants::Nothing {
+            return Ok(());
         }
     }
     Ok(())

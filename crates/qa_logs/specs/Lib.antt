@@ -1,6 +1,10 @@
+pub mod Choosing
 pub mod Cutting
 pub mod Files
+pub mod Heads
+pub mod Opening
 pub mod Records
 pub mod Surveying
 pub mod Tracing
 pub mod Unread
+pub mod Whole

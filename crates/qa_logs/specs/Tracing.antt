@@ -1,6 +1,6 @@
 -- The second reading of the records of a log, and the lines of its trace, as they are given away.
-use Rattle.std.specs.Prelude.{◌≡◌, ◌||◌, ℕ, Bool, false, List, [], Option, None, Some}
-use Rattle.std.specs.Prelude.{true, if◌then◌else◌}
+use Rattle.std.specs.Prelude.{◌≡◌, ◌⊎◌, ◌||◌, ℕ, Bool, false, List, [], Option, None}
+use Rattle.std.specs.Prelude.{Some, true, if◌then◌else◌}
 use Rattle.std.specs.Option.{is_some}
 use Rattle.json.specs.Json.{Json, document}
 use Rattle.qa_convert.specs.Passing.{Closes}
@@ -10,7 +10,9 @@ use Rattle.qa_convert.specs.Telling.{told}
 use Rattle.qa_logs.specs.Cutting as cutting
 use Rattle.qa_logs.specs.Cutting.{Given}
 use Rattle.qa_logs.specs.Records.{Begins, Records, TakesText}
+use Rattle.qa_logs.specs.Whole.{TakesLog}
 use Rattle.qa_logs.specs.declared.cutting.Cutter.{Cutter}
+use Rattle.qa_logs.specs.declared.cutting.Form.{Form}
 use Rattle.qa_logs.specs.declared.cutting.Wants.{Wants}
 use Rattle.qa_logs.specs.declared.log.Log.{Log}
 use Rattle.qa_logs.specs.declared.tracing.Written.{Written}
@@ -85,10 +87,28 @@ given t = record t {
 }
 
 -- the next part of the log came, and the texts that end in it were taken
-pub record Feeds (part : List ℕ) (old : Traced) (wants : Wants) (new : Traced) : Type 0 where
+pub record Feeds (old : Traced) (part : List ℕ) (wants : Wants) (new : Traced) : Type 0 where
   pub has_header : new.has_header ≡ old.has_header
   pub is_torn : new.is_torn ≡ old.is_torn
   pub takes : cutting.Feeds WritesText old.cutter part old.records new.cutter new.records wants
+
+-- the lines that were written may be given away
+abbrev pub MayGive : Traced → Traced → Type 0
+MayGive old new = (new ≡ old) ⊎ (new ≡ given old)
+
+-- the next part came, and lines may be given away before it
+abbrev pub FeedsNext : Traced → List ℕ → Wants → Traced → Type 0
+FeedsNext old part wants new =
+    (before : Traced) × MayGive old before × Feeds before part wants new
+
+-- the lines of events were given away, or those of the header, or none
+abbrev pub GivesAway : Written → Written → Type 0
+GivesAway old new = (new ≡ old)
+    ⊎ (new ≡ record old { second = (old.second.0, [], old.second.2) })
+
+-- the texts of a log of these bytes were taken, and their lines were written
+abbrev pub Writes : Form → List ℕ → Written → Written → Type 0
+Writes form log old new = TakesLog WritesText GivesAway form log old new
 
 -- the log ended: the texts that were left were taken, and its last lines were written
 pub record Closed (old new : Traced) : Type 0 where

@@ -1,4 +1,8 @@
 //! Which trace of a log is converted.
+ghost use Rattle.std.specs.Prelude.{◌≡◌, ◌++◌, IfOk, OnOk, nat_lt};
+ghost use Rattle.qa_logs.specs.Choosing as choosing;
+ghost use Rattle.qa_logs.specs.Choosing.{IsChosen, IsCounted};
+
 use crate::fault::LogFault;
 use qa_base::Role;
 use qa_convert::{Choices, Dialect};
@@ -39,26 +43,16 @@ pub(crate) fn choose(
     alloc: Global,
     roles: &[Option<Role>],
     request: &Request,
-) -> Result<Chosen, LogFault> {
+) -> Result<Chosen, LogFault>
+    ensures { IfOk result (λ it. IsChosen roles.now request.now it) }
+{
     if roles.is_empty() {
         return Err(LogFault::NoTraces);
     }
     let fitting = fitting_of(alloc, roles, request.vantage)?;
-    let count = u64::try_from(fitting.len()).unwrap_or(u64::MAX);
-    let number = if count < 2 {
-        1
-    } else {
-        numbered(count, request.connection).ok_or(LogFault::NoTraceOf(
-            count,
-            request.connection.unwrap_or(1),
-        ))?
-    };
-    let connection = if count < 2 {
-        request.connection.unwrap_or(1)
-    } else {
-        1
-    };
-    let at = usize::try_from(number.saturating_sub(1)).unwrap_or(usize::MAX);
+    let count = fitting.len() as u64;
+    let (number, connection) = counted(count, request.connection)?;
+    let at = number.saturating_sub(1) as usize;
     let Some(fit) = fitting.as_slice().get(at) else {
         return Err(lack_of(request.vantage));
     };
@@ -71,8 +65,23 @@ pub(crate) fn choose(
     })
 }
 
+/// Which of so many traces is meant, and which of its connections.
+fn counted(count: u64, asked: Option<u64>) -> Result<(u64, u64), LogFault>
+    ensures { IfOk result (λ both. IsCounted (nat_lt count 2) count asked both.0 both.1) }
+{
+    if count < 2 {
+        return Ok((1, asked.unwrap_or(1)));
+    }
+    match numbered(count, asked) {
+        Some(number) => Ok((number, 1)),
+        None => Err(LogFault::NoTraceOf(count, asked.unwrap_or(1))),
+    }
+}
+
 /// The number that is asked for, or 1, if there are so many.
-pub(crate) fn numbered(count: u64, asked: Option<u64>) -> Option<u64> {
+fn numbered(count: u64, asked: Option<u64>) -> Option<u64>
+    ensures { result ≡ choosing.numbered count asked }
+{
     let number = asked.unwrap_or(1);
     if 1 <= number && number <= count {
         Some(number)
@@ -94,25 +103,66 @@ fn fitting_of(
     alloc: Global,
     roles: &[Option<Role>],
     asked: Option<Role>,
-) -> Result<Vec<Fit>, AllocError> {
-    let mut fitting = Vec::new(alloc);
+) -> Result<Vec<Fit>, AllocError>
+    ensures { IfOk result (λ fits. fits.items ≡ choosing.fitting asked roles.now) }
+{
+    let fits = saying(alloc, roles, asked)?;
+    if fits.is_empty() {
+        unsaid(alloc, roles, asked)
+    } else {
+        Ok(fits)
+    }
+}
+
+/// Those that say it.
+fn saying(
+    alloc: Global,
+    roles: &[Option<Role>],
+    asked: Option<Role>,
+) -> Result<Vec<Fit>, AllocError>
+    ensures { IfOk result (λ fits. fits.items ≡ choosing.saying 1 asked roles.now) }
+{
+    let mut fits = Vec::new(alloc);
     let mut trace: u64 = 0;
     for role in roles {
         trace = trace.saturating_add(1);
-        if let Some(role) = of_role(*role, asked) {
-            fitting.push(Fit { trace, role })?;
-        }
+        add_fit(&mut fits, trace, of_role(*role, asked))?;
     }
-    if let (true, Some(role)) = (fitting.is_empty(), asked) {
-        if let Some(trace) = first_unsaid(roles) {
-            fitting.push(Fit { trace, role })?;
-        }
-    }
-    Ok(fitting)
+    Ok(fits)
+}
+
+/// One more, if it could be meant.
+fn add_fit(fits: &mut Vec<Fit>, trace: u64, role: Option<Role>) -> Result<(), AllocError>
+    ensures { OnOk result (fits.new.items ≡ fits.old.items ++ choosing.fit trace role) }
+{
+    let Some(role) = role else {
+        return Ok(());
+    };
+    fits.push(Fit { trace, role })?;
+    Ok(())
+}
+
+/// The first that does not say of which endpoint it is, if one is asked for.
+fn unsaid(
+    alloc: Global,
+    roles: &[Option<Role>],
+    asked: Option<Role>,
+) -> Result<Vec<Fit>, AllocError>
+    ensures { IfOk result (λ fits. fits.items
+        ≡ choosing.unsaid asked (choosing.first_unsaid 1 roles.now)) }
+{
+    let mut fits = Vec::new(alloc);
+    let (Some(role), Some(trace)) = (asked, first_unsaid(roles)) else {
+        return Ok(fits);
+    };
+    fits.push(Fit { trace, role })?;
+    Ok(fits)
 }
 
 /// The endpoint of which a trace is, if it could be meant.
-fn of_role(role: Option<Role>, asked: Option<Role>) -> Option<Role> {
+fn of_role(role: Option<Role>, asked: Option<Role>) -> Option<Role>
+    ensures { result ≡ choosing.of_role role asked }
+{
     match (role, asked) {
         (Some(role), Some(asked)) if role != asked => None,
         (role, _) => role,
@@ -120,7 +170,9 @@ fn of_role(role: Option<Role>, asked: Option<Role>) -> Option<Role> {
 }
 
 /// The number of the first trace that does not say of which endpoint it is.
-fn first_unsaid(roles: &[Option<Role>]) -> Option<u64> {
+fn first_unsaid(roles: &[Option<Role>]) -> Option<u64>
+    ensures { result ≡ choosing.first_unsaid 1 roles.now }
+{
     let mut trace: u64 = 0;
     for role in roles {
         trace = trace.saturating_add(1);

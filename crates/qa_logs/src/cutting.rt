@@ -1,8 +1,9 @@
 //! A log in parts, cut into its texts, each of which is handed on.
-ghost use Rattle.std.specs.Prelude.{◌≡◌, IfOk, None, OnOk, Some, false, true};
+ghost use Rattle.std.specs.Prelude.{◌≡◌, IfOk, IfSome, None, OnOk, Some, false, true};
 ghost use Rattle.qa_logs.specs.Cutting.{Ends, Feeds, Given, HandsAll, HandsOne, IsOpen, NextRecord};
 ghost use Rattle.qa_logs.specs.Cutting.{NextText, given};
 ghost use Rattle.qa_logs.specs.Cutting as cuts;
+ghost use Rattle.qa_logs.specs.Opening.{HasSkeleton, PassesRecord};
 ghost use Rattle.qa_logs.specs.declared.cutting.Cutter.TheVariants as cutters;
 ghost use Rattle.qa_logs.specs.declared.cutting.Wants.{Wants as Wish};
 ghost use Rattle.qa_qlog.specs.Cutting as cutting;
@@ -62,7 +63,7 @@ pub(crate) trait Taker {
 pub(crate) struct NoTaker {}
 
 impl Taker for NoTaker {
-    ghost takes = { λ old text wants new. Unit {0} };
+    ghost takes = { PassesRecord };
 
     fn take(&mut self, _text: LogText<'_>) -> Result<Wants, LogFault> {
         Ok(Wants::More)
@@ -172,7 +173,9 @@ impl Parts {
 
     /// What a log that is one object has beside its records, if it ends here; None if more of it
     /// was not needed, or if it has many texts.
-    pub(crate) fn into_skeleton(self) -> Result<Option<Skeleton>, LogFault> {
+    pub(crate) fn into_skeleton(self) -> Result<Option<Skeleton>, LogFault>
+        ensures { IfOk result (λ found. IfSome found (HasSkeleton self)) }
+    {
         let Parts { cutter } = self;
         match cutter {
             Some(Cutter::Document(document)) => Ok(Some(document.into_skeleton()?)),

@@ -20,7 +20,7 @@ pub use choosing::Request;
 pub use cutting::Wants;
 pub use fault::LogFault;
 pub use files::is_log;
-pub use law::readings_take_what_the_log_has;
+pub use law::{readings_take_what_the_log_has, readings_take_whole_logs};
 pub use log::Log;
 pub use opening::Opening;
 pub use surveying::Surveying;

@@ -1,7 +1,15 @@
 //! What a log says beside its records.
-ghost use Rattle.std.specs.Prelude.{◌≡◌, IfOk};
+ghost use Rattle.std.specs.Prelude.{◌≡◌, ◌≢◌, ◌++◌, [], ◌∷◌, IfOk, None, Ok, OnOk, Some};
+ghost use Rattle.json.specs.Find.{BeginsWith, Finds};
+ghost use Rattle.json.specs.Json.{Json};
+ghost use Rattle.qa_qlog.specs.Documents as documents;
+ghost use Rattle.qa_qlog.specs.Kinds.{json_of};
+ghost use Rattle.qa_logs.specs.Choosing as choosing;
+ghost use Rattle.qa_logs.specs.Choosing.{AreRoles, HasRoles, HasTraces};
+ghost use Rattle.qa_logs.specs.Heads as heads;
+ghost use Rattle.qa_logs.specs.Heads.{IsDialect, IsHead, in_document, trace_of};
 ghost use Rattle.qa_logs.specs.Records.{has_many};
-ghost use Rattle.qa_logs.specs.Surveying.{IsAsked};
+ghost use Rattle.qa_logs.specs.Surveying.{IsAsked, IsDialectBy};
 
 use crate::choosing::{Chosen, Request, choose};
 use crate::cutting::Form;
@@ -29,7 +37,11 @@ pub struct Log {
 
 impl Log {
     /// A log of many texts whose first one this is, and begins there.
-    pub(crate) fn of_texts(alloc: Global, form: Form, head: Vec<u8>, place: Place) -> Log {
+    pub(crate) fn of_texts(alloc: Global, form: Form, head: Vec<u8>, place: Place) -> Log
+        ensures form { result.form ≡ form }
+        ensures head { result.head.items ≡ head.items }
+        ensures torn_at { result.torn_at ≡ None }
+    {
         Log {
             alloc,
             form,
@@ -40,7 +52,11 @@ impl Log {
     }
 
     /// A log that is one object, which has this beside its records.
-    pub(crate) fn of_document(alloc: Global, head: Vec<u8>, torn_at: Option<u64>) -> Log {
+    pub(crate) fn of_document(alloc: Global, head: Vec<u8>, torn_at: Option<u64>) -> Log
+        ensures form { result.form ≡ Form.Document }
+        ensures head { result.head.items ≡ head.items }
+        ensures torn_at { result.torn_at ≡ torn_at }
+    {
         Log {
             alloc,
             form: Form::Document,
@@ -56,10 +72,7 @@ impl Log {
     {
         let roles = self.roles()?;
         let chosen = choose(self.alloc, roles.as_slice(), &request)?;
-        let dialect = match request.dialect {
-            Some(dialect) => dialect,
-            None => self.dialect(chosen.trace)?,
-        };
+        let dialect = self.dialect_or(request.dialect, chosen.trace)?;
         let asked = Asked {
             role: chosen.role,
             dialect,
@@ -78,17 +91,28 @@ impl Log {
     }
 
     /// The endpoints of which its traces are.
-    fn roles(&self) -> Result<Vec<Option<Role>>, LogFault> {
-        if let Form::Texts(_) = self.form {
-            return one_role(self.alloc, self.head(1)?.role);
+    fn roles(&self) -> Result<Vec<Option<Role>>, LogFault>
+        ensures { IfOk result (λ roles. AreRoles self.now roles.items) }
+    {
+        match self.form {
+            Form::Texts(_) => one_role(self.alloc, self.head(1)?.role),
+            Form::Document => self.trace_roles(),
         }
+    }
+
+    /// The same of a log that is one object.
+    fn trace_roles(&self) -> Result<Vec<Option<Role>>, LogFault>
+        ensures { IfOk result (λ roles. HasRoles (json_of self.now.head.items) roles.items) }
+    {
         let mut scratch = Scratch::new(self.alloc);
         let tape = parsed(self.alloc, self.head.as_slice(), &mut scratch)?;
         roles_in(self.alloc, &tape.root())
     }
 
     /// The head of one of its traces, by its number from 1.
-    pub(crate) fn head(&self, trace: u64) -> Result<Head, LogFault> {
+    pub(crate) fn head(&self, trace: u64) -> Result<Head, LogFault>
+        ensures { IfOk result (λ head. IsHead self.now trace head) }
+    {
         match self.form {
             Form::Texts(_) => match head_of(self.alloc, self.head.as_slice()) {
                 Ok(head) => Ok(head),
@@ -100,7 +124,10 @@ impl Log {
     }
 
     /// The same of a log that is one object.
-    fn trace_head(&self, trace: u64) -> Result<Head, LogFault> {
+    fn trace_head(&self, trace: u64) -> Result<Head, LogFault>
+        ensures { IfOk result (λ head. in_document trace (json_of self.now.head.items)
+            ≡ Ok head) }
+    {
         let mut scratch = Scratch::new(self.alloc);
         let tape = parsed(self.alloc, self.head.as_slice(), &mut scratch)?;
         let document = tape.root();
@@ -111,16 +138,40 @@ impl Log {
         }
     }
 
+    /// The kind of log that is asked for, or that one of its traces is, by its number from 1.
+    fn dialect_or(&self, asked: Option<Dialect>, trace: u64) -> Result<Dialect, LogFault>
+        ensures { IfOk result (IsDialectBy self.now trace asked) }
+    {
+        match asked {
+            Some(dialect) => Ok(dialect),
+            None => self.dialect(trace),
+        }
+    }
+
     /// The kind of log that one of its traces is, by its number from 1.
-    fn dialect(&self, trace: u64) -> Result<Dialect, LogFault> {
+    fn dialect(&self, trace: u64) -> Result<Dialect, LogFault>
+        ensures { IfOk result (IsDialect self.now trace) }
+    {
         let mut scratch = Scratch::new(self.alloc);
         let tape = parsed(self.alloc, self.head.as_slice(), &mut scratch)?;
-        let document = tape.root();
-        let found = match self.form {
-            Form::Texts(_) => document.get("trace"),
-            Form::Document => trace_at(&document, trace)?,
-        };
-        Ok(dialect_in(&document, &found))
+        let head = tape.root();
+        let found = self.trace_in(&head, trace)?;
+        Ok(dialect_in(&head, &found))
+    }
+
+    /// What says more of one of its traces than its head, by the number from 1 of the trace.
+    fn trace_in<'t, 'a>(
+        &self,
+        head: &Element<'t, 'a>,
+        trace: u64,
+    ) -> Result<Option<Element<'t, 'a>>, LogFault>
+        ensures { IfOk result (λ found. (j : Json) → BeginsWith head.now j
+            → Finds found (heads.trace_in self.now.form trace j)) }
+    {
+        match self.form {
+            Form::Texts(_) => Ok(head.get("trace")),
+            Form::Document => trace_at(head, trace),
+        }
     }
 }
 
@@ -129,7 +180,9 @@ fn parsed<'a>(
     alloc: Global,
     bytes: &'a [u8],
     scratch: &'a mut Scratch,
-) -> Result<Tape<'a>, LogFault> {
+) -> Result<Tape<'a>, LogFault>
+    ensures { IfOk result (λ tape. (j : Json) × (json_of bytes.now ≡ Some j) × BeginsWith tape j) }
+{
     let Ok(text) = str::from_utf8(bytes) else {
         return Err(LogFault::NotJson);
     };
@@ -141,21 +194,28 @@ fn parsed<'a>(
 }
 
 /// The endpoint of the one trace.
-fn one_role(alloc: Global, role: Option<Role>) -> Result<Vec<Option<Role>>, LogFault> {
+fn one_role(alloc: Global, role: Option<Role>) -> Result<Vec<Option<Role>>, LogFault>
+    ensures { IfOk result (λ roles. roles.items ≡ role ∷ []) }
+{
     let mut roles = Vec::new(alloc);
     add_role(&mut roles, role)?;
     Ok(roles)
 }
 
 /// One more endpoint.
-fn add_role(roles: &mut Vec<Option<Role>>, role: Option<Role>) -> Result<(), AllocError> {
+fn add_role(roles: &mut Vec<Option<Role>>, role: Option<Role>) -> Result<(), AllocError>
+    ensures { OnOk result (roles.new.items ≡ roles.old.items ++ role ∷ []) }
+{
     roles.push(role)?;
     Ok(())
 }
 
 /// The endpoints of the traces of a document; None of one whose head does not say it, or cannot be
 /// read.
-fn roles_in(alloc: Global, document: &Element<'_, '_>) -> Result<Vec<Option<Role>>, LogFault> {
+fn roles_in(alloc: Global, document: &Element<'_, '_>) -> Result<Vec<Option<Role>>, LogFault>
+    ensures { IfOk result (λ roles. (j : Json) → BeginsWith document.now j
+        → roles.items ≡ choosing.roles_in j) }
+{
     let mut roles = Vec::new(alloc);
     let Some(traces) = traces_in(document)? else {
         return Ok(roles);
@@ -173,16 +233,31 @@ fn role_in(
     alloc: Global,
     document: &Element<'_, '_>,
     trace: Element<'_, '_>,
-) -> Result<Option<Role>, LogFault> {
+) -> Result<Option<Role>, LogFault>
+    ensures { IfOk result (λ role. (d t : Json) → BeginsWith document.now d
+        → BeginsWith trace.entry t → role ≡ choosing.role_of d t) }
+{
     match head_in(alloc, document, &Some(trace)) {
         Ok(head) => Ok(head.role),
-        Err(NoHead::OutOfMemory) => Err(LogFault::OutOfMemory),
-        Err(_) => Ok(None),
+        Err(fault) => no_role(fault),
+    }
+}
+
+/// That a head that cannot be read says no endpoint.
+fn no_role(fault: NoHead) -> Result<Option<Role>, LogFault>
+    ensures { IfOk result (λ role. (role ≡ None) × (fault ≢ NoHead.OutOfMemory)) }
+{
+    match fault {
+        NoHead::OutOfMemory => Err(LogFault::OutOfMemory),
+        _ => Ok(None),
     }
 }
 
 /// The traces of a document.
-fn traces_in<'t, 'a>(document: &Element<'t, 'a>) -> Result<Option<Items<'t, 'a>>, LogFault> {
+fn traces_in<'t, 'a>(document: &Element<'t, 'a>) -> Result<Option<Items<'t, 'a>>, LogFault>
+    ensures { IfOk result (λ found. (j : Json) → BeginsWith document.now j
+        → HasTraces found (choosing.or_none (documents.traces j))) }
+{
     match traces_of(document) {
         Ok(traces) => Ok(traces),
         Err(NoValue::Missing(_)) => Ok(None),
@@ -194,17 +269,13 @@ fn traces_in<'t, 'a>(document: &Element<'t, 'a>) -> Result<Option<Items<'t, 'a>>
 fn trace_at<'t, 'a>(
     document: &Element<'t, 'a>,
     number: u64,
-) -> Result<Option<Element<'t, 'a>>, LogFault> {
-    let Some(traces) = traces_in(document)? else {
+) -> Result<Option<Element<'t, 'a>>, LogFault>
+    ensures { IfOk result (λ found. (j : Json) → BeginsWith document.now j
+        → Finds found (trace_of number j)) }
+{
+    traces_in(document)?;
+    let Some(traces) = document.get("traces") else {
         return Ok(None);
     };
-    let mut traces = traces;
-    let mut at: u64 = 0;
-    while let Some(trace) = traces.next() {
-        at = at.saturating_add(1);
-        if at == number {
-            return Ok(Some(trace));
-        }
-    }
-    Ok(None)
+    Ok(traces.at(number.saturating_sub(1) as usize))
 }

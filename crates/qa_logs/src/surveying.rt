@@ -1,14 +1,14 @@
 //! The first reading of the records of a log.
-ghost use Rattle.std.specs.Prelude.{◌≡◌, IfOk};
+ghost use Rattle.std.specs.Prelude.{◌≡◌, Decides, IfOk};
 ghost use Rattle.qa_convert.specs.Surveying.{unread};
 ghost use Rattle.qa_logs.specs.Cutting as cutting;
 ghost use Rattle.qa_logs.specs.Records.{ReadsText};
-ghost use Rattle.qa_logs.specs.Surveying.{Feeds, Leads, SkipsText, Starts, SurveysRecord};
-ghost use Rattle.qa_logs.specs.Surveying.{SurveysText, records_of};
+ghost use Rattle.qa_logs.specs.Surveying.{Feeds, HasConnection, Leads, SkipsText, Starts};
+ghost use Rattle.qa_logs.specs.Surveying.{SurveysRecord, SurveysText, records_of};
 ghost use Rattle.qa_logs.specs.Unread.{IsNotJson};
 
 use crate::Reading;
-use crate::choosing::{Chosen, numbered};
+use crate::choosing::Chosen;
 use crate::cutting::{LogText, Parts, Taker, Wants};
 use crate::fault::LogFault;
 use crate::log::Log;
@@ -81,7 +81,7 @@ impl Surveying {
         parts.end(&mut records)?;
         let Surveyed { first, unread, .. } = records;
         let count = first.connections();
-        if numbered(count.max(1), Some(chosen.connection)).is_none() {
+        if !has_connection(count, chosen.connection) {
             return Err(LogFault::NoConnection(count.max(1), chosen.connection));
         }
         match first.second(log.head(chosen.trace)?) {
@@ -89,6 +89,13 @@ impl Surveying {
             Err(fault) => Err(why(fault, &unread)),
         }
     }
+}
+
+/// Whether a log that names so many connections has one of this number.
+fn has_connection(count: u64, number: u64) -> bool
+    ensures { Decides result (HasConnection count number) }
+{
+    1 <= number && number <= count.max(1)
 }
 
 /// Why there is no trace: a record that cannot be read, if the log ends there and lacks what a
@@ -103,7 +110,7 @@ fn why(fault: NoTrace, unread: &Unread) -> LogFault {
 }
 
 impl Reading for Surveying {
-    ghost feeds = { λ old part wants new. Feeds part old wants new };
+    ghost feeds = { Feeds };
 
     fn feed(&mut self, part: &[u8]) -> Result<Wants, LogFault> {
         self.parts.feed(part, &mut self.records)

@@ -154,7 +154,7 @@ fn others(
 }
 
 impl Reading for Trace {
-    ghost feeds = { λ old part wants new. Feeds part old wants new };
+    ghost feeds = { Feeds };
 
     fn feed(&mut self, part: &[u8]) -> Result<Wants, LogFault> {
         self.parts.feed(part, &mut self.records)

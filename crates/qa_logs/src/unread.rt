@@ -59,9 +59,9 @@ impl Unread {
         ensures { IfOk result (λ instead. DoneWith (given text.entry) self.old.torn instead
             self.new.torn) }
     {
-        if let Place::Byte(_) = text.place {
+        let Place::Line(_) = text.place else {
             return Err(LogFault::Record(text.place, NoRecord::NotJson));
-        }
+        };
         if !text.is_whole || is_decisive(text.bytes) {
             self.torn = Some(TornAt {
                 place: text.place,
