@@ -25,7 +25,7 @@ if sys.argv[1] == "version":
     print(os.environ.get("KIT", "{KIT}"))
     sys.exit()
 print("rt:", *sys.argv[1:])
-for built in sorted(pathlib.Path("crates").glob("*/out/rlib/stamp")):
+for built in sorted(pathlib.Path("crates").glob("*/out/*/stamp")):
     print("rt: has", built.read_text())
 for edit in sorted(pathlib.Path("crates").glob("*/must-fail/*.edit")):
     name = f"must-fail {{edit.parts[1]}}/{{edit.name}}"
@@ -141,6 +141,16 @@ class EditsTest(unittest.TestCase):
         self.assertEqual([row["refused"] for row in rows.values()], ["1", "1"])
         self.assertEqual(rows["qb"]["not_refused"], "qb/three")
         self.assertEqual(rows["qb"]["kit"], KIT_WITHOUT_NAMES)
+
+    def test_what_was_proved_here(self) -> None:
+        self.write(".gitignore", "bin/\nout/\n__pycache__/\n")
+        for name in ("qa/out/rlib", "qb/out/incremental"):
+            self.write(f"crates/{name}/stamp", name)
+        self.commit()
+        printed = self.run_edits(0, "--here", "qb")
+        wanted = ["rt: must-fail qb", "rt: has qa/out/rlib", "rt: has qb/out/incremental"]
+        self.assertEqual(printed[: len(wanted)], wanted)
+        self.assertEqual(self.result()["qb"]["refused"], "1")
 
     def test_nothing_is_tried_again(self) -> None:
         self.run_edits(0)
