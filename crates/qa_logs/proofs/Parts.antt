@@ -15,7 +15,7 @@ use Rattle.qa_logs.specs.Surveying as surveying
 use Rattle.qa_logs.specs.Surveying.{Begun, SurveysText, Stays}
 use Rattle.qa_logs.specs.Tracing as tracing
 use Rattle.qa_logs.specs.Tracing.{GivesAway, MayGive, Traced, WritesText, given}
-use Rattle.qa_logs.specs.Whole.{FeedsAll, FeedsEach, TakesAll, TakesLog, given_by}
+use Rattle.qa_logs.specs.Whole.{FeedsEach, TakesAll, TakesLog, given_by}
 use Rattle.qa_logs.specs.declared.choosing.Chosen.{Chosen}
 use Rattle.qa_logs.specs.declared.cutting.Cutter.{Cutter}
 use Rattle.qa_logs.specs.declared.cutting.Cutter.TheVariants as cutters
@@ -29,7 +29,7 @@ use Rattle.qa_logs.specs.declared.opening.First.{First}
 use Rattle.qa_logs.specs.declared.opening.Found.{Found}
 use Rattle.qa_logs.specs.declared.opening.Kept.{Kept}
 use Rattle.qa_logs.specs.declared.tracing.Written.{Written}
-use Rattle.qa_logs.proofs.Whole.{FedIn, IsIn, RecordLaws, Rests, TextLaws, log_read, records_fed, texts_read}
+use Rattle.qa_logs.proofs.Whole.{FedIn, FeedsAll, IsIn, RecordLaws, Rests, TextLaws, log_read, records_fed, texts_read}
 
 -- ---- the first reading
 

@@ -14,8 +14,8 @@ use Rattle.qa_qlog.specs.Taking as taking
 use Rattle.qa_qlog.specs.Taking.{MayFollow, TakesText}
 use Rattle.qa_qlog.specs.Texts.{Numbered, Read, Rest, left, text_limit, texts_by}
 use Rattle.qa_qlog.specs.declared.texts.Mark.{Mark}
-use Rattle.qa_logs.specs.Cutting.{Ends, Given, HandsAll, NextRecord, NextText, Steps, Takes, WantsMore, left_by, of_record, of_text}
-use Rattle.qa_logs.specs.Whole.{Between, FeedsAll, ReadsAll, TakesAll, TakesLog, TakesUpTo, given_by}
+use Rattle.qa_logs.specs.Cutting.{Ends, Feeds, Given, HandsAll, NextRecord, NextText, Steps, Takes, WantsMore, fresh, left_by, of_record, of_text}
+use Rattle.qa_logs.specs.Whole.{Between, TakesAll, TakesLog, TakesUpTo, given_by}
 use Rattle.qa_logs.specs.declared.cutting.Cutter.{Cutter}
 use Rattle.qa_logs.specs.declared.cutting.Cutter.TheVariants as cutters
 use Rattle.qa_logs.specs.declared.cutting.Form.{Form}
@@ -23,6 +23,18 @@ use Rattle.qa_logs.specs.declared.cutting.Form.TheVariants as form
 use Rattle.qa_logs.specs.declared.cutting.Wants.{Wants}
 use Rattle.qa_logs.specs.declared.cutting.Wants.TheVariants.{More, Nothing}
 use Rattle.qa_logs.proofs.Handing.{RecordLaw, TextLaw, records_of, texts_of}
+
+-- parts came one after another, and what cuts the log is known too
+abbrev pub FeedsAll : {S : Type 0} → Takes S → Between S → Option Cutter → S → List (List ℕ) → Option Cutter → S → Type 0
+FeedsAll takes between log old [] rest new = (rest ≡ log) × between old new
+FeedsAll {S} takes between log old (part ∷ parts) rest new = (a : S) × (b : S)
+    × (mid : Option Cutter) × (wants : Wants) × between old a × Feeds takes log part a mid b wants
+    × FeedsAll takes between mid b parts rest new
+
+-- a log of this form came in these parts, and ended
+abbrev pub ReadsAll : {S : Type 0} → Takes S → Between S → Form → List (List ℕ) → S → S → Type 0
+ReadsAll {S} takes between f parts old new = (rest : Option Cutter) × (last : S)
+    × FeedsAll takes between (Some (fresh f)) old parts rest last × Ends takes rest last new
 
 -- what is done between two parts may be nothing, or something and something more
 pub record Rests {S : Type 0} (between : Between S) : Type 0 where

@@ -1,13 +1,12 @@
 -- A log that comes in parts, from its beginning to its end, and the texts of it that are taken.
 use Rattle.std.specs.Prelude.{◌≡◌, ◌⊎◌, ◌++◌, ℕ, List, [], ◌∷◌, map, false, true, Option}
-use Rattle.std.specs.Prelude.{None, Some, Result}
+use Rattle.std.specs.Prelude.{None, Result}
 use Rattle.qa_qlog.specs.Cuts.{Cut, cuts_of}
 use Rattle.qa_qlog.specs.Marks.{byte_of}
 use Rattle.qa_qlog.specs.Texts.{Numbered, Read, texts_by}
 use Rattle.qa_qlog.specs.declared.cutter.CutFault.{CutFault}
 use Rattle.qa_qlog.specs.declared.texts.Mark.{Mark}
-use Rattle.qa_logs.specs.Cutting.{Ends, Feeds, Given, Steps, Takes, fresh, of_record, of_text}
-use Rattle.qa_logs.specs.declared.cutting.Cutter.{Cutter}
+use Rattle.qa_logs.specs.Cutting.{Given, Steps, Takes, of_record, of_text}
 use Rattle.qa_logs.specs.declared.cutting.Form.{Form}
 use Rattle.qa_logs.specs.declared.cutting.Form.TheVariants as form
 use Rattle.qa_logs.specs.declared.cutting.Wants.{Wants}
@@ -21,21 +20,6 @@ FeedsEach feeds = Steps (λ old part new. (wants : Wants) × feeds old part want
 -- what may be done between two parts, as lines are given away
 abbrev pub Between : Type 0 → Type 1
 Between S = S → S → Type 0
-
--- ---- what cuts it
-
--- parts came one after another
-abbrev pub FeedsAll : {S : Type 0} → Takes S → Between S → Option Cutter → S → List (List ℕ)
-    → Option Cutter → S → Type 0
-FeedsAll takes between log old [] rest new = (rest ≡ log) × between old new
-FeedsAll {S} takes between log old (part ∷ parts) rest new = (a : S) × (b : S)
-    × (mid : Option Cutter) × (wants : Wants) × between old a × Feeds takes log part a mid b wants
-    × FeedsAll takes between mid b parts rest new
-
--- a log of this form came in these parts, and ended
-abbrev pub ReadsAll : {S : Type 0} → Takes S → Between S → Form → List (List ℕ) → S → S → Type 0
-ReadsAll {S} takes between f parts old new = (rest : Option Cutter) × (last : S)
-    × FeedsAll takes between (Some (fresh f)) old parts rest last × Ends takes rest last new
 
 -- ---- its texts
 

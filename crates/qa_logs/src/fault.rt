@@ -1,5 +1,5 @@
 //! Why a log gives no trace, or why its trace ends.
-use qa_convert::{NoLine, NoMore, NoRecord, NoTrace, Place};
+use qa_convert::{NoLine, NoMore, NoRecord, NoSurvey, NoTrace, Place, Stack};
 use qa_qlog::{CutFault, NoHead, NoLog, NoValue, TextFault};
 use std::alloc::AllocError;
 use thiserror::Error;
@@ -67,6 +67,9 @@ pub enum LogFault {
     /// It lacks what a trace needs.
     #[error("{0}")]
     Trace(NoTrace),
+    /// It lacks the frames of packets, as all logs of its stack do, and this is what to do then.
+    #[error("{0}. {1}")]
+    NoFrames(NoSurvey, &'static str),
     /// Out of memory.
     #[error("out of memory")]
     OutOfMemory,
@@ -94,6 +97,17 @@ impl LogFault {
         match fault {
             NoMore::Record(fault) => LogFault::of_record(place, fault),
             NoMore::Line(fault) => LogFault::of_line(place, fault),
+        }
+    }
+
+    /// What a log of this stack lacks.
+    pub(crate) fn of_survey(fault: NoSurvey, stack: Stack) -> LogFault {
+        let advice = stack.advice();
+        match fault {
+            NoSurvey::NoFramesSent | NoSurvey::NoFramesReceived if !advice.is_empty() => {
+                LogFault::NoFrames(fault, advice)
+            }
+            fault => LogFault::Trace(NoTrace::Survey(fault)),
         }
     }
 

@@ -14,7 +14,7 @@ use crate::fault::LogFault;
 use crate::log::Log;
 use crate::tracing::Trace;
 use crate::unread::{Instead, Unread};
-use qa_convert::{Asked, FirstReading, NoRecord, NoTrace};
+use qa_convert::{Asked, FirstReading, NoRecord, NoTrace, Stack};
 use qa_qlog::Head;
 use std::marker::Model;
 
@@ -24,6 +24,8 @@ use std::marker::Model;
 pub struct Surveying {
     parts: Parts,
     chosen: Chosen,
+    /// The stack whose log it is.
+    stack: Stack,
     records: Surveyed,
 }
 
@@ -58,6 +60,7 @@ impl Surveying {
         Surveying {
             parts: Parts::new(log.alloc, log.form),
             chosen,
+            stack: asked.dialect.stack,
             records: Surveyed {
                 first: FirstReading::new(log.alloc, head, asked),
                 unread: Unread::new(log.alloc),
@@ -75,6 +78,7 @@ impl Surveying {
         let Surveying {
             parts,
             chosen,
+            stack,
             records,
         } = self;
         let (mut parts, mut records) = (parts, records);
@@ -86,7 +90,7 @@ impl Surveying {
         }
         match first.second(log.head(chosen.trace)?) {
             Ok(second) => Ok(Trace::new(log, chosen, count, second)),
-            Err(fault) => Err(why(fault, &unread)),
+            Err(fault) => Err(why(fault, &unread, stack)),
         }
     }
 }
@@ -98,13 +102,14 @@ fn has_connection(count: u64, number: u64) -> bool
     1 <= number && number <= count.max(1)
 }
 
-/// Why there is no trace: a record that cannot be read, if the log ends there and lacks what a
-/// trace needs.
-fn why(fault: NoTrace, unread: &Unread) -> LogFault {
+/// Why there is no trace of a log of this stack: a record that cannot be read, if the log ends there
+/// and lacks what a trace needs.
+fn why(fault: NoTrace, unread: &Unread, stack: Stack) -> LogFault {
     match (fault, unread.torn) {
         (NoTrace::Survey(_), Some(torn)) if torn.is_broken => {
             LogFault::Record(torn.place, NoRecord::NotJson)
         }
+        (NoTrace::Survey(fault), _) => LogFault::of_survey(fault, stack),
         (fault, _) => LogFault::from(fault),
     }
 }

@@ -137,6 +137,19 @@ fn a_log_is_empty(rt: HostRuntime) {
     );
 }
 
+/// A log as quinn writes it: the packets are without their frames.
+const WITHOUT_FRAMES: &str =
+    "{\"qlog_version\":\"0.3\",\"qlog_format\":\"JSON-SEQ\",\"title\":\"quinn\",\"trace\":{\"vantage_point\":{\"name\":\"quinn\",\"type\":\"client\"}}}\n{\"time\":0,\"name\":\"transport:packet_sent\",\"data\":{\"header\":{\"packet_type\":\"1RTT\",\"packet_number\":0},\"raw\":{\"length\":1200}}}\n";
+
+const NO_FRAMES: &str =
+    "qlog-to-trace: standard input: each packet_sent is without its frames: which packets are ack-eliciting is not in this log, so it gives no trace. quinn logs none; hooks in its recovery code give a trace (docs/stacks.md)\n";
+
+/// Who has a log of a stack whose logs give no trace is told what does.
+#[test]
+fn a_log_is_without_frames(rt: HostRuntime) {
+    assert!(rt; runs(&rt, &[], WITHOUT_FRAMES, (2, 0), ("", NO_FRAMES)));
+}
+
 const NOTES: &str =
     "found: losses and metrics come after the packet_received that caused them (acknowledgments with a report: 0, of which agree after 0, before 0; losses after 0, before 0; round-trip times after 0, before 0)\nfound: a value that metrics leave out: it is as it was\nfound: its times are whole milliseconds; reports may be off by 10 microseconds\nfound: no probe timeouts; of one that does not show, the next one is late, so timers may be 500000 microseconds late\nguessed 1: max_ack_delay: 25 ms, for the peer's is not logged\n";
 
