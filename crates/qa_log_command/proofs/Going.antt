@@ -11,7 +11,7 @@ use Rattle.qa_logs.specs.declared.cutting.Wants.TheVariants.{More, Nothing}
 use Rattle.qa_log_command.specs.Reading.{GivesLines, GoesOn, TakesPart}
 use Rattle.qa_log_command.proofs.WrittenLines.{wrote_more}
 
-concat_one : (xs : List (List ℕ)) (y : List ℕ) → concat (xs ++ y ∷ []) ≡ concat xs ++ y
+pub concat_one : (xs : List (List ℕ)) (y : List ℕ) → concat (xs ++ y ∷ []) ≡ concat xs ++ y
 concat_one [] y = append-nil y
 concat_one (x ∷ xs) y = ap (λ k. x ++ k) (concat_one xs y) ∙ sym (append_assoc x (concat xs) y)
 

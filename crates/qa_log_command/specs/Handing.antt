@@ -1,6 +1,9 @@
 -- How a reader of the trace of a log hands its lines on.
-use Rattle.std.specs.Prelude.{◌≡◌, ◌⊎◌, ◌+◌, ◌++◌, ℕ, true, List, drop, length, min, take}
-use Rattle.qa_logs.specs.Tracing.{shown}
+use Rattle.std.specs.Prelude.{◌≡◌, ◌⊎◌, ◌+◌, ◌++◌, ℕ, true, List, [], drop, length, min, take}
+use Rattle.std.specs.List.{concat}
+use Rattle.qa_logs.specs.Cutting.{Steps}
+use Rattle.qa_logs.specs.Tracing.{Traced, shown}
+use Rattle.qa_log_command.specs.Reading.{GivesLines}
 use Rattle.qa_log_command.specs.declared.reader.TraceReader.{TraceReader}
 
 -- what is left of the lines at a point of the trace
@@ -12,8 +15,15 @@ abbrev pub Gives : {F : Type 0} → TraceReader F → TraceReader F → List ℕ
 Gives old new before after n =
     (n ≡ min (length (left old)) (length before))
     × (after ≡ take n (left old) ++ drop n before)
-    × (new.lines ≡ old.lines) × (new.passed ≡ old.passed + n)
+    × (new ≡ record old { passed = old.passed + n })
 
--- a buffer of some bytes gets none only behind the last lines
+-- these bytes were read from this point of the trace on: the lines of each point that it went on
+-- from, and the first bytes of those where it stands
+abbrev pub HasRead : {F : Type 0} → Traced → List ℕ → TraceReader F → Type 0
+HasRead start bytes r = (parts : List (List ℕ)) × Steps GivesLines start parts r.lines.0
+    × (bytes ≡ concat parts ++ take r.passed (shown r.lines.0))
+
+-- a buffer of some bytes gets none only once all lines were read
 abbrev pub EndsThen : {F : Type 0} → TraceReader F → List ℕ → ℕ → Type 0
-EndsThen new before n = n ≡ 0 → (length before ≡ 0) ⊎ (new.lines.1 ≡ true)
+EndsThen new before n =
+    n ≡ 0 → (length before ≡ 0) ⊎ ((left new ≡ []) × (new.lines.1 ≡ true))

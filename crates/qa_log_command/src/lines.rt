@@ -97,6 +97,13 @@ impl<'a, F: Read + Drop> Lines<'a, F> {
         Ok(self.trace.feed(self.parts.part())?)
     }
 
+    /// Whether nothing follows the lines that `text` returns.
+    pub fn is_ended(&self) -> bool
+        ensures { result ≡ self.now.1 }
+    {
+        self.is_ended
+    }
+
     /// How many lines there are so far, with those that `text` returns.
     pub fn count(&self) -> u64 {
         self.passed.saturating_add(count_lines(self.text()))

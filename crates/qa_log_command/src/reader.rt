@@ -1,7 +1,10 @@
 //! A reader of the trace of a log.
-ghost use Rattle.std.specs.Prelude.{◌≡◌, ◌≢◌, ◌+◌, ◌<◌, ◌≤◌, ◌^◌, [], IfOk, false, length, true};
+ghost use Rattle.std.specs.Prelude.{◌≡◌, ◌≢◌, ◌+◌, ◌++◌, ◌<◌, ◌≤◌, ◌^◌, [], IfOk, ℕ, List};
+ghost use Rattle.std.specs.Prelude.{None, false, length, take, true};
 ghost use Rattle.std.specs.Result.{is_ok};
-ghost use Rattle.qa_log_command.specs.Handing.{EndsThen, Gives, left};
+ghost use Rattle.qa_log_command.specs.Handing.{EndsThen, Gives, HasRead, left};
+ghost use Rattle.qa_log_command.specs.Reading.{GoesOn};
+ghost use Rattle.qa_logs.specs.Tracing.{Traced};
 
 use crate::failure::Stopped;
 use crate::lines::Lines;
@@ -23,7 +26,11 @@ pub struct TraceReader<'a, F> {
 
 impl<'a, F: Read + Drop> TraceReader<'a, F> {
     /// Before the first of these lines.
-    pub fn new(lines: Lines<'a, F>) -> TraceReader<'a, F> {
+    pub fn new(lines: Lines<'a, F>) -> TraceReader<'a, F>
+        ensures begins { HasRead lines.entry.0 [] result }
+        ensures goes { result.lines.1 ≡ lines.entry.1 }
+        ensures stopped { result.stopped ≡ None }
+    {
         TraceReader {
             lines,
             passed: 0,
@@ -44,12 +51,15 @@ impl<'a, F: Read + Drop> TraceReader<'a, F> {
     /// The next bytes of the trace, as many as there are and as the buffer takes; none at its end.
     ///
     /// While some of the lines at this point are left, it does not fail: these are the next of
-    /// them, and nothing else changes. Only behind the last lines, or into no buffer, it gives
-    /// none. A read fails as the reader itself says.
+    /// them, and nothing else changes. Else it goes on to lines of which some are. It gives none only
+    /// once all lines were read, or into no buffer. A read fails as the reader itself says.
     pub fn next(&mut self, buffer: &mut [u8]) -> io::Result<usize>
         ensures next { left self.old ≢ [] → IfOk result (Gives self.old self.new
             buffer.old buffer.new) }
         ensures gives { left self.old ≢ [] → is_ok result ≡ true }
+        ensures reads { (start : Traced) (bytes : List ℕ) → HasRead start bytes self.old
+            → IfOk result (λ count. self.new.stopped ≡ None
+            → HasRead start (bytes ++ take count buffer.new) self.new) }
         ensures ends { IfOk result (λ count. EndsThen self.new buffer.old count) }
         ensures bound { IfOk result (λ count. count ≤ length buffer.old) }
     {
@@ -74,33 +84,41 @@ impl<'a, F: Read + Drop> TraceReader<'a, F> {
     fn fill(&mut self) -> io::Result<()>
         ensures stays { left self.old ≢ [] → self.new ≡ self.old }
         ensures is_done { left self.old ≢ [] → is_ok result ≡ true }
+        ensures reads { (start : Traced) (bytes : List ℕ) → HasRead start bytes self.old
+            → IfOk result (λ _. self.new.stopped ≡ None → HasRead start bytes self.new) }
         ensures ends { IfOk result (λ _. left self.new ≡ [] → self.new.lines.1 ≡ true) }
     {
         'lines: for _i in 0..u64::MAX {
-            if !self.rest().is_empty() || !self.advance()? {
+            if !self.rest().is_empty() || self.is_last()? {
                 return Ok(());
             }
+            self.advance();
         }
         // No log has so many parts.
         Err(io::Error::from(io::ErrorKind::InvalidData))
     }
 
-    /// Goes on by one step, to the first byte of its lines. Returns false at the end.
-    fn advance(&mut self) -> io::Result<bool>
-        ensures start { IfOk result (λ has_more. self.new.passed ≡ 0) }
-        ensures ends { IfOk result (λ has_more. has_more ≡ false → self.new.lines.1 ≡ true) }
+    /// Whether no lines follow those at this point. Fails if that is due to a fault.
+    fn is_last(&self) -> io::Result<bool>
+        ensures is_last { IfOk result (λ is_last. is_last ≡ self.now.lines.1) }
+        ensures stopped { IfOk result (λ _. self.now.stopped ≡ None) }
     {
-        if self.stopped.is_some() {
-            return Err(io::Error::from(io::ErrorKind::InvalidData));
+        match self.stopped {
+            Some(_) => Err(io::Error::from(io::ErrorKind::InvalidData)),
+            None => Ok(self.lines.is_ended()),
         }
+    }
+
+    /// Goes on by one step, to the first byte of its lines. If that fails, `stopped` says why.
+    fn advance(&mut self)
+        ensures start { self.new.passed ≡ 0 }
+        ensures goes { self.old.lines.1 ≡ false → self.new.stopped ≡ None
+            → GoesOn self.old.lines.0 self.new.lines.0 }
+    {
         self.passed = 0;
-        match self.lines.advance() {
-            Ok(has_more) => Ok(has_more),
-            Err(failure) => {
-                let lines = self.lines.count();
-                self.stopped = Some(Stopped { failure, lines });
-                Ok(true)
-            }
+        if let Err(failure) = self.lines.advance() {
+            let lines = self.lines.count();
+            self.stopped = Some(Stopped { failure, lines });
         }
     }
 

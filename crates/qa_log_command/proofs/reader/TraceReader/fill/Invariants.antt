@@ -1,7 +1,12 @@
-use Rattle.std.proofs.Common.{◌≡◌, ◌≢◌, []}
-use Rattle.qa_log_command.specs.Handing.{left}
+use Rattle.std.proofs.Common.{◌≡◌, ◌≢◌, [], ℕ, List, None}
+use Rattle.qa_logs.specs.Tracing.{Traced}
+use Rattle.qa_log_command.specs.Handing.{HasRead, left}
 use Rattle.qa_log_command.proofs.reader.TraceReader.fill.Given as goal
 
--- as long as something is left nothing changed, and it is the first turn
+-- as long as something is left nothing changed, and it is the first turn; the bytes that were read
+-- stay the same
 abbrev pub invariant-lines : goal.invariant-lines
-invariant-lines g l = left l.fn.self ≢ [] → (l.self ≡ l.fn.self) × (l._i ≡ 0)
+invariant-lines g l = record {
+  stays : left l.fn.self ≢ [] → (l.self ≡ l.fn.self) × (l._i ≡ 0);
+  reads : (start : Traced) (bytes : List ℕ) → HasRead start bytes l.fn.self → l.self.stopped ≡ None → HasRead start bytes l.self;
+}
