@@ -51,8 +51,8 @@ impl<'a, F: Read + Drop> TraceReader<'a, F> {
     /// The next bytes of the trace, as many as there are and as the buffer takes; none at its end.
     ///
     /// While some of the lines at this point are left, it does not fail: these are the next of
-    /// them, and nothing else changes. Else it goes on to lines of which some are. It gives none only
-    /// once all lines were read, or into no buffer. A read fails as the reader itself says.
+    /// them, and nothing else changes. Else it goes on to lines of which some are. It gives none
+    /// only once all lines were read, or into no buffer. A read fails as the reader itself says.
     pub fn next(&mut self, buffer: &mut [u8]) -> io::Result<usize>
         ensures next { left self.old ≢ [] → IfOk result (Gives self.old self.new
             buffer.old buffer.new) }

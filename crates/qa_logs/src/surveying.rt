@@ -102,8 +102,8 @@ fn has_connection(count: u64, number: u64) -> bool
     1 <= number && number <= count.max(1)
 }
 
-/// Why there is no trace of a log of this stack: a record that cannot be read, if the log ends there
-/// and lacks what a trace needs.
+/// Why there is no trace of a log of this stack: a record that cannot be read, if the log ends
+/// there and lacks what a trace needs.
 fn why(fault: NoTrace, unread: &Unread, stack: Stack) -> LogFault {
     match (fault, unread.torn) {
         (NoTrace::Survey(_), Some(torn)) if torn.is_broken => {
