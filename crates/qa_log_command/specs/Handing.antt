@@ -1,5 +1,6 @@
 -- How a reader of the trace of a log hands its lines on.
-use Rattle.std.specs.Prelude.{◌≡◌, ◌⊎◌, ◌+◌, ◌++◌, ℕ, true, List, [], drop, length, min, take}
+use Rattle.std.specs.Prelude.{◌≡◌, ◌⊎◌, ◌+◌, ◌++◌, ℕ, true, List, [], None, drop, length, min}
+use Rattle.std.specs.Prelude.{take}
 use Rattle.std.specs.List.{concat}
 use Rattle.qa_logs.specs.Cutting.{Steps}
 use Rattle.qa_logs.specs.Tracing.{Traced, shown}
@@ -23,7 +24,10 @@ abbrev pub HasRead : {F : Type 0} → Traced → List ℕ → TraceReader F → 
 HasRead start bytes r = (parts : List (List ℕ)) × Steps GivesLines start parts r.lines.0
     × (bytes ≡ concat parts ++ take r.passed (shown r.lines.0))
 
--- a buffer of some bytes gets none only once all lines were read
+-- all lines were read, and no fault stopped it
+abbrev pub IsAtEnd : {F : Type 0} → TraceReader F → Type 0
+IsAtEnd r = (left r ≡ []) × (r.lines.1 ≡ true) × (r.stopped ≡ None)
+
+-- a buffer of some bytes gets none only at the end
 abbrev pub EndsThen : {F : Type 0} → TraceReader F → List ℕ → ℕ → Type 0
-EndsThen new before n =
-    n ≡ 0 → (length before ≡ 0) ⊎ ((left new ≡ []) × (new.lines.1 ≡ true))
+EndsThen new before n = n ≡ 0 → (length before ≡ 0) ⊎ IsAtEnd new

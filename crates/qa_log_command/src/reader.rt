@@ -2,7 +2,7 @@
 ghost use Rattle.std.specs.Prelude.{◌≡◌, ◌≢◌, ◌+◌, ◌++◌, ◌<◌, ◌≤◌, ◌^◌, [], IfOk, ℕ, List};
 ghost use Rattle.std.specs.Prelude.{None, false, length, take, true};
 ghost use Rattle.std.specs.Result.{is_ok};
-ghost use Rattle.qa_log_command.specs.Handing.{EndsThen, Gives, HasRead, left};
+ghost use Rattle.qa_log_command.specs.Handing.{EndsThen, Gives, HasRead, IsAtEnd, left};
 ghost use Rattle.qa_log_command.specs.Reading.{GoesOn};
 ghost use Rattle.qa_logs.specs.Tracing.{Traced};
 
@@ -60,6 +60,7 @@ impl<'a, F: Read + Drop> TraceReader<'a, F> {
         ensures reads { (start : Traced) (bytes : List ℕ) → HasRead start bytes self.old
             → IfOk result (λ count. self.new.stopped ≡ None
             → HasRead start (bytes ++ take count buffer.new) self.new) }
+        ensures fault { self.new.stopped ≡ None → self.old.stopped ≡ None }
         ensures ends { IfOk result (λ count. EndsThen self.new buffer.old count) }
         ensures bound { IfOk result (λ count. count ≤ length buffer.old) }
     {
@@ -86,7 +87,8 @@ impl<'a, F: Read + Drop> TraceReader<'a, F> {
         ensures is_done { left self.old ≢ [] → is_ok result ≡ true }
         ensures reads { (start : Traced) (bytes : List ℕ) → HasRead start bytes self.old
             → IfOk result (λ _. self.new.stopped ≡ None → HasRead start bytes self.new) }
-        ensures ends { IfOk result (λ _. left self.new ≡ [] → self.new.lines.1 ≡ true) }
+        ensures fault { self.new.stopped ≡ None → self.old.stopped ≡ None }
+        ensures ends { IfOk result (λ _. left self.new ≡ [] → IsAtEnd self.new) }
     {
         'lines: for _i in 0..u64::MAX {
             if !self.rest().is_empty() || self.is_last()? {
@@ -114,6 +116,7 @@ impl<'a, F: Read + Drop> TraceReader<'a, F> {
         ensures start { self.new.passed ≡ 0 }
         ensures goes { self.old.lines.1 ≡ false → self.new.stopped ≡ None
             → GoesOn self.old.lines.0 self.new.lines.0 }
+        ensures fault { self.new.stopped ≡ None → self.old.stopped ≡ None }
     {
         self.passed = 0;
         if let Err(failure) = self.lines.advance() {

@@ -16,4 +16,5 @@ lines-preserved g c =
             went_on start c.lines.self.lines.0 c.advance.new.self.lines.0 now.0 now.1 goes,
             read_all bytes now.0 (shown c.lines.self.lines.0) (shown c.advance.new.self.lines.0) c.lines.self.passed c.advance.new.self.passed now.2 none c.advance.ensures.start,
           );
+      fault = λ goes_on. c.lines.invariant.fault (c.advance.ensures.fault goes_on);
     }
