@@ -26,6 +26,8 @@ program_without_memory := crates/without_memory/out/without_memory
 # The library for C: what `rt lib` makes of its crate, with the heap of the kit, which stands over malloc.
 library := bin/libqaudit.a
 library_shared := bin/libqaudit.so
+# With counters, for libFuzzer.
+library_counted := bin/libqaudit-counted.a
 examples := examples/ten-packets.trace examples/eleven-packets.trace
 # The tests of the programs of conformance/, which mostly wait for one another's processes.
 runner_tests := test_run test_trials test_allowed test_mutations test_rows test_departures test_simulate test_links test_made_up \
@@ -292,9 +294,13 @@ test_netlog:
 fuzz:
 	conformance/qlog/fuzz
 
-# No part of `test` either: it takes ten minutes, and needs Debian's clang and libclang-rt-14-dev.
-fuzz_library: $(library)
-	conformance/fuzz_library $(library)
+# No part of `test` either: it takes ten minutes, and needs Debian's clang and libclang-rt-14-dev. What it keeps in bin/
+# is there for the next run.
+fuzz_library: $(library_counted)
+	conformance/fuzz_library --folder bin/fuzzed $(library_counted)
+
+$(library_counted): $(library) conformance/fuzz/instrument
+	conformance/fuzz/instrument --library $@
 
 test_captures:
 	python3 captures/test_causes.py

@@ -10,14 +10,15 @@ from collections.abc import Sequence
 from dataclasses import dataclass
 from datetime import UTC, datetime
 from pathlib import Path
+from typing import NamedTuple
 
 TOP = Path(__file__).resolve().parent.parent
 PAGE = Path("docs/proofs.md")
 BEGIN = "<!-- conformance/qlog/fuzz and conformance/fuzz_library put what follows here -->\n"
 END = "<!-- up to here -->\n"
 HEAD = """
-| Program | Cases | Minutes | Of processors | Processes | Seeds | Findings | Date | Commit |
-|---|---:|---:|---:|---:|---|---:|---|---|
+| Program | Cases | Minutes | Of processors | Processes | Seeds | Found | Branches | Date | Commit |
+|---|---:|---:|---:|---:|---|---:|---:|---|---|
 """
 MINUTE = 60
 HOUR = 3_600
@@ -25,6 +26,16 @@ HOUR = 3_600
 
 class NoPlaceError(Exception):
     """The page has no place for the table."""
+
+
+class Branches(NamedTuple):
+    """How many branches have a counter, and how many of those a run reached."""
+
+    reached: int
+    counted: int
+
+    def __str__(self) -> str:
+        return f"{self.reached:,} of {self.counted:,}"
 
 
 @dataclass(frozen=True)
@@ -39,6 +50,8 @@ class Figures:
     seeds: Sequence[int]
     findings: int
     commit: str
+    # None where the program has no counters.
+    branches: Branches | None = None
 
     def row(self) -> str:
         """Its row in the table."""
@@ -47,7 +60,7 @@ class Figures:
         return (
             f"| `{self.program}` | {self.cases:,} | {time_of(self.seconds)} "
             f"| {time_of(self.processor_seconds)} | {len(self.seeds)} | {seeds} "
-            f"| {self.findings} | {date} | {self.commit} |\n"
+            f"| {self.findings} | {self.branches or ''} | {date} | {self.commit} |\n"
         )
 
 

@@ -5,12 +5,15 @@ It wants a clang that has libFuzzer, as Debian's with libclang-rt-14-dev.
 """
 
 import argparse
+import re
 import subprocess
 import sys
 import tempfile
 import unittest
 from pathlib import Path
+from unittest.mock import patch
 
+import kept
 from runners import FOLDER
 from testing import new_folder, script
 
@@ -156,6 +159,26 @@ class Inputs(unittest.TestCase):
             self.assertEqual(self.program.call(command).hex(), wanted)
 
 
+class Kept(unittest.TestCase):
+    """The inputs that are kept."""
+
+    def test_they_are_read_as_they_were_written(self) -> None:
+        inputs = [b"", b"\0\7{}\n", bytes(range(256))]
+        with patch.object(kept, "KEPT", new_folder(self) / "kept"):
+            kept.keep(reversed(inputs))
+            self.assertEqual(kept.kept_inputs(), inputs)
+
+    def test_those_of_the_repository(self) -> None:
+        inputs = kept.kept_inputs()
+        self.assertTrue(inputs)
+        self.assertEqual(inputs, sorted(set(inputs), key=kept.by_length))
+        folder = new_folder(self)
+        script_of = script(PROGRAM)
+        script_of.lay_inputs(folder)
+        laid = {path.read_bytes() for path in folder.iterdir()}
+        self.assertEqual(laid, {*inputs, *script_of.first_inputs().values()})
+
+
 class Processes(unittest.TestCase):
     """How long a process goes on."""
 
@@ -169,7 +192,7 @@ class Processes(unittest.TestCase):
         given = argparse.Namespace(minutes=1, inputs=0, folder=folder)
         running = script_of.started(program, given, 1)
         running.process.wait(timeout=60)
-        self.assertEqual(script_of.ended(running), (7, ""))
+        self.assertEqual(script_of.ended(running), (7, "", (0, 0)))
 
 
 @unittest.skipIf(NO_CLANG, NO_CLANG)
@@ -191,8 +214,41 @@ class Findings(unittest.TestCase):
         folder = new_folder(self)
         status, text = self.tried("", "--jobs", "2", "--folder", str(folder))
         self.assertEqual(status, 0, text)
-        self.assertRegex(text, r"^\d+ inputs in \d+ seconds\n2 passed, 0 failed\n$")
+        said = r"^\d+ inputs in \d+ seconds reached (\d+) of (\d+) branches\n2 passed, 0 failed\n$"
+        match = re.match(said, text)
+        assert match, text
+        self.assertTrue(0 < int(match[1]) <= int(match[2]), text)
         self.assertTrue(list((folder / "corpus").iterdir()))
+
+    def test_kept_inputs_reach_as_much(self) -> None:
+        folder, script_of = new_folder(self), script(PROGRAM)
+        library = made(folder)
+        program = script_of.compiled(str(library), folder)
+        first, corpus = set(script_of.first_inputs().values()), folder / "corpus"
+        # Two that reach the same, of which one suffices, and one that reaches what no trace does.
+        calls = {b"\1\x0a\x0e\0\7\x10", b"\1\x0a\x0e\0\7\x10\x0e\0\7\x10", b"\1\x0a\x0b"}
+        corpus.mkdir()
+        for number, data in enumerate(first | calls):
+            (corpus / str(number)).write_bytes(data)
+        with patch.object(kept, "KEPT", folder / "kept"):
+            script_of.keep_inputs(program, corpus)
+            inputs = kept.kept_inputs()
+        self.assertEqual(inputs, sorted(inputs, key=kept.by_length))
+        self.assertTrue(inputs)
+        self.assertLess(len(inputs), len(first | calls))
+        self.assertFalse(set(inputs) & first)
+        again = folder / "again"
+        again.mkdir()
+        for number, data in enumerate([*inputs, *first]):
+            (again / str(number)).write_bytes(data)
+        reached = [self.reached(program, it) for it in (corpus, again)]
+        self.assertEqual(*reached)
+
+    def reached(self, program: Path, corpus: Path) -> int:
+        """How many branches the inputs of a folder reach."""
+        command = [str(program), "-runs=0", str(corpus)]
+        said = subprocess.run(command, capture_output=True, text=True, check=True).stderr
+        return int(re.findall(r"cov: (\d+)", said)[-1])
 
     def test_mistakes(self) -> None:
         for wrong, says in MISTAKES.items():

@@ -225,7 +225,7 @@ class Cases(unittest.TestCase):
 
 
 # A row of a run that did not say what it took of the processors.
-UNCOUNTED = "| `c` | 7 | 60:00 |  | 2 | 1, 2 | 0 | 2026-11-27 | abc |\n"
+UNCOUNTED = "| `c` | 7 | 60:00 |  | 2 | 1, 2 | 0 |  | 2026-11-27 | abc |\n"
 
 
 class Fuzz(unittest.TestCase):
@@ -276,7 +276,7 @@ class Fuzz(unittest.TestCase):
             figures.Figures("b", 1_234, 61.4, 90, [7, 8], 0, "abc"),
             figures.Figures("a", 1, 3_600, 1_800, [1], 2, "abc with changes"),
             figures.Figures("b", 9, 1, 0.6, [7], 0, "def"),
-            figures.Figures("b", 5, 2, 3.4, [7, 8], 1, "ghi"),
+            figures.Figures("b", 5, 2, 3.4, [7, 8], 1, "ghi", figures.Branches(1_999, 20_000)),
         ]
         page = f"Before.\n{self.before}After.\n"
         page = page.replace(figures.END, f"{UNCOUNTED}{figures.END}")
@@ -284,16 +284,16 @@ class Fuzz(unittest.TestCase):
             page = figures.with_row(page, row)
         day = rows[0].row().split(" | ")[-2]
         table = (
-            f"| `a` | 1 | 60:00 | 30:00 | 1 | 1 | 2 | {day} | abc with changes |\n"
-            f"| `b` | 9 | 0:01 | 0:01 | 1 | 7 | 0 | {day} | def |\n"
-            f"| `b` | 5 | 0:02 | 0:03 | 2 | 7, 8 | 1 | {day} | ghi |\n"
+            f"| `a` | 1 | 60:00 | 30:00 | 1 | 1 | 2 |  | {day} | abc with changes |\n"
+            f"| `b` | 9 | 0:01 | 0:01 | 1 | 7 | 0 |  | {day} | def |\n"
+            f"| `b` | 5 | 0:02 | 0:03 | 2 | 7, 8 | 1 | 1,999 of 20,000 | {day} | ghi |\n"
             f"{UNCOUNTED}"
         )
         told = "In all, by the processors: 0.5 hours of `a`, 0.0 hours of `b`.\n"
         text = f"{figures.HEAD}{table}\n{told}\n"
         wanted = f"Before.\n{figures.BEGIN}{text}{figures.END}After.\n"
         self.assertEqual(page, wanted)
-        self.assertIn(f"| `b` | 1,234 | 1:01 | 1:30 | 2 | 7, 8 | 0 | {day} | abc |", rows[0].row())
+        self.assertIn(f"| `b` | 1,234 | 1:01 | 1:30 | 2 | 7, 8 | 0 |  | {day} | abc |", rows[0].row())
         said = "No run here says what it took of the processors.\n"
         self.assertEqual(figures.hours_of([UNCOUNTED]), said)
         with self.assertRaises(figures.NoPlaceError):

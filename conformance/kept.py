@@ -1,0 +1,27 @@
+"""The inputs that conformance/fuzz_library keeps, which conformance/library tries again."""
+
+from collections.abc import Iterable
+
+from runners import FOLDER
+
+# A line for each, the shortest first, with each byte as Python writes it in a text.
+KEPT = FOLDER / "fuzz_library.inputs"
+ESCAPES = "unicode_escape"
+# By which each byte is a character of its own.
+BYTES = "latin-1"
+
+
+def kept_inputs() -> list[bytes]:
+    """The inputs that are kept."""
+    return [line.decode(ESCAPES).encode(BYTES) for line in KEPT.read_bytes().splitlines()]
+
+
+def keep(inputs: Iterable[bytes]) -> None:
+    """Keeps these inputs in the place of those before."""
+    lines = [it.decode(BYTES).encode(ESCAPES) + b"\n" for it in sorted(inputs, key=by_length)]
+    KEPT.write_bytes(b"".join(lines))
+
+
+def by_length(data: bytes) -> tuple[int, bytes]:
+    """The place of an input among others: the shortest is first."""
+    return len(data), data
