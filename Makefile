@@ -298,6 +298,7 @@ fuzz:
 # is there for the next run.
 fuzz_library: $(library_counted)
 	conformance/fuzz_library --folder bin/fuzzed $(library_counted)
+	conformance/library --inputs bin/fuzzed/corpus $(library)
 
 $(library_counted): $(library) conformance/fuzz/instrument
 	conformance/fuzz/instrument --library $@

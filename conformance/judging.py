@@ -23,13 +23,16 @@ FAULTS = {
 WITH_A_KEY = ("F3", "F4", "F5")
 FORM = re.compile(r"(refused|unreadable) line ([1-9][0-9]*) ([VF][0-9]+) ([a-z-]+)(?: ([a-z_]+))?")
 
+# What comes of a line that cannot be read, if a verdict says that it was.
+NOT_READ = (ValueError, KeyError, TypeError)
+
 # What a line says, with its number.
 Said = tuple[int, Event]
 
 
 def rows_and_report(trace: bytes, text: str) -> tuple[str, str]:
     """The rows and the report of a trace, of which a report says this. ValueError where it has no
-    form that there is."""
+    form that there is, and one of NOT_READ if it takes a line that cannot be read."""
     verdict = text.split("\n", 1)[0]
     lines = trace.removesuffix(b"\n").split(b"\n")
     is_unreadable = verdict.startswith("unreadable")
@@ -65,7 +68,10 @@ def line_of(verdict: str, lines: int) -> int:
 
 def said_by(line: bytes) -> Event:
     """What a line says; a key that is null is absent."""
-    return {key: value for key, value in json.loads(line.decode()).items() if value is not None}
+    said = json.loads(line.decode())
+    if not isinstance(said, dict):
+        raise TypeError(f"{line!r} is no object")
+    return {key: value for key, value in said.items() if value is not None}
 
 
 def rows_of(said: list[Said]) -> tuple[str, Sender]:

@@ -22,6 +22,16 @@ def keep(inputs: Iterable[bytes]) -> None:
     KEPT.write_bytes(b"".join(lines))
 
 
+def is_trace(data: bytes) -> bool:
+    """Whether an input is a trace, and not calls."""
+    return data[:1] == b"" or data[0] % 2 == 0
+
+
+def trace_of(data: bytes) -> bytes:
+    """The trace that an input is; the size of a piece is before it."""
+    return data[2:]
+
+
 def by_length(data: bytes) -> tuple[int, bytes]:
     """The place of an input among others: the shortest is first."""
     return len(data), data
