@@ -3,7 +3,8 @@
  * The first byte of an input says what it is. If it is even, the second is the size of a piece, and the rest a trace,
  * which is fed in such pieces and as a whole: the two reports must be one. If it is odd, the rest are calls: a byte
  * for the function, and its numbers, each as a byte below 0xE0, or as 0xE0, 0xE1 or 0xE2 and 2, 4 or 8 bytes, or as
- * the byte of a number at a limit. What a call returns must be what the header promises.
+ * the byte of a number at a limit. What a call returns must be what the header promises. One of the calls is none: it
+ * says which allocations from then on are refused.
  */
 #include "qaudit.h"
 
@@ -25,6 +26,42 @@ static void check(bool is_right, const char *what) {
     fprintf(stderr, "fuzz_library: %s\n", what);
     abort();
 }
+
+/* ---- memory: the linker takes these two for malloc and realloc; what is made here comes from calloc */
+
+typedef struct refusals {
+    uint8_t before; /* allocations before the first that is refused */
+    uint8_t count;  /* and how many are, one after another */
+    bool happened;  /* in this call */
+} refusals;
+
+static refusals memory;
+
+static bool is_refused(void) {
+    if (!memory.count) return false;
+    if (memory.before) {
+        memory.before--;
+        return false;
+    }
+    memory.count--;
+    memory.happened = true;
+    return true;
+}
+
+#ifdef __cplusplus
+extern "C" {
+#endif
+void *__real_malloc(size_t size);
+void *__real_realloc(void *old, size_t size);
+void *__wrap_malloc(size_t size);
+void *__wrap_realloc(void *old, size_t size);
+#ifdef __cplusplus
+}
+#endif
+
+void *__wrap_malloc(size_t size) { return is_refused() ? NULL : __real_malloc(size); }
+
+void *__wrap_realloc(void *old, size_t size) { return is_refused() ? NULL : __real_realloc(old, size); }
 
 /* ---- the input */
 
@@ -60,7 +97,7 @@ static bool flag(input *in) { return next(in) & 1; }
 
 /* A block of its own, so that a byte beyond it is seen. */
 static void *copy(const void *from, size_t size) {
-    void *block = malloc(size ? size : 1);
+    void *block = calloc(size ? size : 1, 1);
     check(block != NULL, "no memory for the input");
     if (size) memcpy(block, from, size);
     return block;
@@ -69,6 +106,9 @@ static void *copy(const void *from, size_t size) {
 /* ---- what must hold of an audit, whatever was handed in */
 
 typedef size_t (*put)(qaudit *q, uint8_t *out, size_t room);
+
+/* Whether a text has the length that it has, or none for want of memory. */
+static bool is_length(size_t count, size_t wanted) { return count == wanted || (memory.happened && count == 0); }
 
 static size_t text_of(qaudit *q, put function, size_t most, uint8_t *text) {
     uint8_t guarded[REPORT + GUARD], before[REPORT + GUARD];
@@ -81,7 +121,7 @@ static size_t text_of(qaudit *q, put function, size_t most, uint8_t *text) {
     memcpy(text, guarded, count);
     if (count) {
         memcpy(guarded, before, sizeof guarded);
-        check(function(q, guarded, count - 1) == count, "a text has another length");
+        check(is_length(function(q, guarded, count - 1), count), "a text has another length");
         check(memcmp(guarded, before, sizeof guarded) == 0, "a short buffer was written to");
     }
     return count;
@@ -103,19 +143,29 @@ static void tell(qaudit *q, qaudit_status_t state) {
     }
     count = text_of(q, qaudit_report, REPORT, text);
     first = text_of(q, qaudit_first_line, FIRST_LINE, line);
-    check((count > 0) == is_known && (first > 0) == is_known, "a report without a verdict, or none with it");
-    check(first <= count && memcmp(text, line, first) == 0, "the first line is another");
+    check(is_length(count > 0, is_known), "a report without a verdict, or none with it");
+    check(is_length(first > 0, is_known), "a first line without a verdict, or none with it");
+    check(!count || (first <= count && memcmp(text, line, first) == 0), "the first line is another");
+}
+
+/* What a call hands in, by which it is known how it may take nothing. */
+typedef enum handed { TEXT, EVENT, RANGES } handed;
+
+static bool took_nothing(qaudit_status_t returned, handed what) {
+    if (what == TEXT) return false;
+    if (returned == QAUDIT_OUT_OF_RANGE || returned == QAUDIT_INSIDE_LINE) return true;
+    return returned == QAUDIT_NOT_TAKEN && what == RANGES && memory.happened;
 }
 
 /* How far an audit is after a call, and whether the call may return that. */
-static qaudit_status_t after(qaudit *q, qaudit_status_t state, qaudit_status_t returned, bool is_event) {
-    bool took_nothing = returned == QAUDIT_OUT_OF_RANGE || returned == QAUDIT_INSIDE_LINE;
-    if (state == QAUDIT_CLOSED || state == QAUDIT_FINISHED || state == QAUDIT_FIXED) {
-        check(returned == state || (took_nothing && is_event), "a call moved an audit that was at its end");
-    } else {
-        check(returned == QAUDIT_OPEN || returned == QAUDIT_FIXED || (took_nothing && is_event), "no such status");
-        if (!took_nothing) state = returned;
+static qaudit_status_t after(qaudit *q, qaudit_status_t state, qaudit_status_t returned, handed what) {
+    if (took_nothing(returned, what)) returned = state;
+    if (state == QAUDIT_OPEN) {
+        bool is_out = returned == QAUDIT_OUT_OF_MEMORY && memory.happened;
+        check(returned == QAUDIT_OPEN || returned == QAUDIT_FIXED || is_out, "no such status");
+        state = returned;
     }
+    check(returned == state, "a call moved an audit that was at its end");
     check(qaudit_status(q) == state, "the status is another after a call");
     return state;
 }
@@ -272,14 +322,16 @@ static void names(input *in) {
 static void reason(qaudit *q, input *in, qaudit_status_t state) {
     uint16_t rows = (uint16_t)number(in);
     uint8_t none = 0xA5, *text;
-    size_t count = qaudit_around(q, rows, &none, 0), first = qaudit_why(q, &none, 0);
+    size_t count = qaudit_around(q, rows, &none, 0), first = qaudit_why(q, &none, 0), written;
     check(none == 0xA5, "a reason was written where it has no room");
-    check(first <= count && (first > 0) == (count > 0), "rows take away from the reason");
+    check(memory.happened || (first <= count && (first > 0) == (count > 0)), "rows take away from the reason");
     check(state != QAUDIT_CLOSED || count == 0, "a reason without a session");
-    text = (uint8_t *)malloc(count ? count : 1);
+    if (!count) return;
+    text = (uint8_t *)calloc(count, 1);
     check(text != NULL, "no memory for a reason");
-    check(qaudit_around(q, rows, text, count) == count, "a reason has another length");
-    check(!count || text[0] == '-', "a reason has another name");
+    written = qaudit_around(q, rows, text, count);
+    check(is_length(written, count), "a reason has another length");
+    check(!written || text[0] == '-', "a reason has another name");
     free(text);
 }
 
@@ -295,40 +347,51 @@ static void allowed(qaudit *q, qaudit_status_t state) {
     check(memcmp(all + count, before, sizeof all - count * sizeof *all) == 0, "allowances have something behind them");
 }
 
+/* How far an audit is after it was opened. */
+static qaudit_status_t opened(qaudit_status_t returned) {
+    check(returned == QAUDIT_OPEN || (memory.happened && returned == QAUDIT_CLOSED), "it was not opened");
+    return returned;
+}
+
+static qaudit_status_t finish(qaudit *q, qaudit_status_t state) {
+    qaudit_status_t returned = qaudit_finish(q), wanted = QAUDIT_FINISHED;
+    if (state == QAUDIT_CLOSED || state == QAUDIT_OUT_OF_MEMORY) wanted = state;
+    check(returned == wanted || (memory.happened && returned == QAUDIT_OUT_OF_MEMORY), "it was not finished");
+    return returned;
+}
+
+static void refuse(input *in) {
+    memory.before = next(in);
+    memory.count = next(in);
+}
+
 /* Makes the next call, and says how far the audit is then. */
 static qaudit_status_t call(qaudit *q, input *in, qaudit_status_t state) {
     switch (next(in) % 16) {
-    case 0: return after(q, state, feed(q, in), false);
-    case 1: return after(q, state, header(q, in), true);
-    case 2: return after(q, state, sent(q, in), true);
-    case 3: return after(q, state, ack(q, in), true);
-    case 4: return after(q, state, lost(q, in), true);
-    case 5: return after(q, state, timer(q, in), true);
-    case 6: return after(q, state, discard(q, in), true);
-    case 7: return after(q, state, qaudit_confirmed(q, number(in)), true);
-    case 8: return after(q, state, qaudit_keys(q, number(in)), true);
-    case 9: return after(q, state, metrics(q, in), true);
-    case 10:
-        check(qaudit_open(q) == QAUDIT_OPEN, "it was not opened");
-        return QAUDIT_OPEN;
+    case 0: return after(q, state, feed(q, in), TEXT);
+    case 1: return after(q, state, header(q, in), EVENT);
+    case 2: return after(q, state, sent(q, in), EVENT);
+    case 3: return after(q, state, ack(q, in), RANGES);
+    case 4: return after(q, state, lost(q, in), RANGES);
+    case 5: return after(q, state, timer(q, in), EVENT);
+    case 6: return after(q, state, discard(q, in), EVENT);
+    case 7: return after(q, state, qaudit_confirmed(q, number(in)), EVENT);
+    case 8: return after(q, state, qaudit_keys(q, number(in)), EVENT);
+    case 9: return after(q, state, metrics(q, in), EVENT);
+    case 10: return opened(qaudit_open(q));
     case 11:
         qaudit_close(q);
         check(q->at == NULL && !q->is_open, "it was not closed");
         return QAUDIT_CLOSED;
-    case 12: {
-        qaudit_status_t wanted = state == QAUDIT_CLOSED ? QAUDIT_CLOSED : QAUDIT_FINISHED;
-        check(qaudit_finish(q) == wanted, "it was not finished");
-        return wanted;
-    }
+    case 12: return finish(q, state);
     case 13: tell(q, state); return state;
     case 14: names(in); return state;
     default:
-        switch (next(in) % 3) {
-        case 0:
-            check(qaudit_open_recorded(q) == QAUDIT_OPEN, "it was not opened");
-            return QAUDIT_OPEN;
+        switch (next(in) % 4) {
+        case 0: return opened(qaudit_open_recorded(q));
         case 1: reason(q, in, state); return state;
-        default: allowed(q, state); return state;
+        case 2: allowed(q, state); return state;
+        default: refuse(in); return state;
         }
     }
 }
@@ -337,7 +400,11 @@ static void make_calls(input *in) {
     qaudit q = {NULL, false};
     qaudit_status_t state = QAUDIT_CLOSED;
     tell(&q, state);
-    while (in->left) state = call(&q, in, state);
+    while (in->left) {
+        memory.happened = false;
+        state = call(&q, in, state);
+    }
+    memset(&memory, 0, sizeof memory);
     tell(&q, state);
     qaudit_close(&q);
 }
@@ -352,7 +419,7 @@ static size_t report_of(const uint8_t *bytes, size_t count, size_t piece, uint8_
         uint8_t *block;
         size = piece && piece < count - at ? piece : count - at;
         block = (uint8_t *)copy(bytes + at, size);
-        state = after(&q, state, qaudit_feed(&q, block, size), false);
+        state = after(&q, state, qaudit_feed(&q, block, size), TEXT);
         free(block);
     }
     check(qaudit_finish(&q) == QAUDIT_FINISHED, "it was not finished");

@@ -1,4 +1,5 @@
-"""The inputs that conformance/fuzz_library keeps, which conformance/library tries again."""
+"""The inputs that conformance/fuzz_library keeps, which conformance/library tries again, and what
+both tell the compiler."""
 
 from collections.abc import Iterable
 
@@ -9,6 +10,8 @@ KEPT = FOLDER / "fuzz_library.inputs"
 ESCAPES = "unicode_escape"
 # By which each byte is a character of its own.
 BYTES = "latin-1"
+# How fuzz_library.c comes to refuse memory.
+REFUSING = ("-Wl,--wrap=malloc", "-Wl,--wrap=realloc")
 
 
 def kept_inputs() -> list[bytes]:

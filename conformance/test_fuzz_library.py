@@ -30,7 +30,9 @@ void qaudit_close(qaudit *q) {
 }
 uint32_t qaudit_open(qaudit *q) {
     qaudit_close(q);
-    q->at = calloc(1, 8);
+    q->at = malloc(8);
+    if (!q->at && !UNCHECKED) return QAUDIT_CLOSED;
+    memset(q->at, 0, 8);
     q->is_open = true;
     return QAUDIT_OPEN;
 }
@@ -42,7 +44,9 @@ uint32_t qaudit_feed(qaudit *q, const uint8_t *b, size_t n) {
     return now(q);
 }
 uint32_t qaudit_header(qaudit *q, const qaudit_trace_header *h) { return now(q); }
-uint32_t qaudit_sent(qaudit *q, const qaudit_packet *p) { return STATUS ? 9 : now(q); }
+uint32_t qaudit_sent(qaudit *q, const qaudit_packet *p) {
+    return STATUS && now(q) == QAUDIT_OPEN ? 9 : now(q);
+}
 uint32_t qaudit_ack(qaudit *q, const qaudit_acknowledgment *a, const qaudit_range *r, size_t n) {
     for (size_t i = 0; i < n; i++) seen += r[i + READS_RANGES].least;
     return now(q);
@@ -54,7 +58,12 @@ uint32_t qaudit_timer(qaudit *q, const qaudit_fired_timer *t) { return now(q); }
 uint32_t qaudit_discard(qaudit *q, uint64_t t, uint32_t s) { return now(q); }
 uint32_t qaudit_confirmed(qaudit *q, uint64_t t) { return now(q); }
 uint32_t qaudit_keys(qaudit *q, uint64_t t) { return now(q); }
-uint32_t qaudit_metrics(qaudit *q, const qaudit_metrics_report *m) { return now(q); }
+uint32_t qaudit_metrics(qaudit *q, const qaudit_metrics_report *m) {
+    void *block = malloc(1);
+    bool forgets = FORGETS && !block && now(q) == QAUDIT_OPEN;
+    free(block);
+    return forgets ? QAUDIT_OUT_OF_MEMORY : now(q);
+}
 uint32_t qaudit_finish(qaudit *q) {
     if (q->is_open) *(uint32_t *)q->at = QAUDIT_FINISHED;
     return now(q);
@@ -103,6 +112,8 @@ MISTAKES = {
     "NAMES": "a name was written where it has no room",
     "REASONS": "a reason was written where it has no room",
     "ALLOWED": "something was allowed without a session",
+    "UNCHECKED": "SEGV on unknown address",
+    "FORGETS": "the status is another after a call",
 }
 PROGRAM = FOLDER / "fuzz_library"
 # By a number and not for a time, so that a busy computer finds the same.
