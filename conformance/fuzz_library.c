@@ -17,6 +17,7 @@
 #define NAME 22
 #define GUARD 32
 #define MOST_RANGES 5000
+#define MOST_PACKETS 5000
 #define MOST_ALLOWED 14
 
 int LLVMFuzzerTestOneInput(const uint8_t *bytes, size_t count);
@@ -218,7 +219,7 @@ static qaudit_status_t header(qaudit *q, input *in) {
     return qaudit_header(q, &h);
 }
 
-static qaudit_status_t sent(qaudit *q, input *in) {
+static qaudit_packet packet(input *in) {
     qaudit_packet p;
     memset(&p, 0, sizeof p);
     p.time = number(in);
@@ -228,7 +229,24 @@ static qaudit_status_t sent(qaudit *q, input *in) {
     p.leave = small(in);
     p.eliciting = flag(in);
     p.in_flight = flag(in);
+    return p;
+}
+
+static qaudit_status_t sent(qaudit *q, input *in) {
+    qaudit_packet p = packet(in);
     return qaudit_sent(q, &p);
+}
+
+/* Packets of which only the numbers differ: so a short input has many of them. */
+static qaudit_status_t many_sent(qaudit *q, input *in, qaudit_status_t state) {
+    qaudit_packet p = packet(in);
+    size_t count = (size_t)(number(in) % (MOST_PACKETS + 1)), i;
+    uint8_t step = next(in);
+    for (i = 0; i < count; i++) {
+        state = after(q, state, qaudit_sent(q, &p), EVENT);
+        p.number += step;
+    }
+    return state;
 }
 
 static qaudit_range *ranges(input *in, size_t *count) {
@@ -387,11 +405,12 @@ static qaudit_status_t call(qaudit *q, input *in, qaudit_status_t state) {
     case 13: tell(q, state); return state;
     case 14: names(in); return state;
     default:
-        switch (next(in) % 4) {
+        switch (next(in) % 5) {
         case 0: return opened(qaudit_open_recorded(q));
         case 1: reason(q, in, state); return state;
         case 2: allowed(q, state); return state;
-        default: refuse(in); return state;
+        case 3: refuse(in); return state;
+        default: return many_sent(q, in, state);
         }
     }
 }

@@ -13,7 +13,7 @@ import unittest
 from pathlib import Path
 from unittest.mock import patch
 
-import kept
+import inputs
 from runners import FOLDER
 from testing import new_folder, script
 
@@ -145,9 +145,6 @@ with tempfile.TemporaryDirectory() as first:
 class Inputs(unittest.TestCase):
     """How calls are written."""
 
-    def setUp(self) -> None:
-        self.program = script(PROGRAM)
-
     def test_numbers(self) -> None:
         for value, wanted in (
             (0, "00"),
@@ -157,7 +154,7 @@ class Inputs(unittest.TestCase):
             (0x12345, "e145230100"),
             (2**32, "e20000000001000000"),
         ):
-            self.assertEqual(self.program.number(value).hex(), wanted)
+            self.assertEqual(inputs.number(value).hex(), wanted)
 
     def test_calls(self) -> None:
         for command, wanted in (
@@ -167,27 +164,26 @@ class Inputs(unittest.TestCase):
             (b"lost 9 2 1 4 5\n", "040902010405"),
             (b"keys 9\n", "0809"),
         ):
-            self.assertEqual(self.program.call(command).hex(), wanted)
+            self.assertEqual(inputs.call(command).hex(), wanted)
 
 
 class Kept(unittest.TestCase):
     """The inputs that are kept."""
 
     def test_they_are_read_as_they_were_written(self) -> None:
-        inputs = [b"", b"\0\7{}\n", bytes(range(256))]
-        with patch.object(kept, "KEPT", new_folder(self) / "kept"):
-            kept.keep(reversed(inputs))
-            self.assertEqual(kept.kept_inputs(), inputs)
+        wanted = [b"", b"\0\7{}\n", bytes(range(256))]
+        with patch.object(inputs, "KEPT", new_folder(self) / "kept"):
+            inputs.keep(reversed(wanted))
+            self.assertEqual(inputs.kept_inputs(), wanted)
 
     def test_those_of_the_repository(self) -> None:
-        inputs = kept.kept_inputs()
-        self.assertTrue(inputs)
-        self.assertEqual(inputs, sorted(set(inputs), key=kept.by_length))
+        kept = inputs.kept_inputs()
+        self.assertTrue(kept)
+        self.assertEqual(kept, sorted(set(kept), key=inputs.by_length))
         folder = new_folder(self)
-        script_of = script(PROGRAM)
-        script_of.lay_inputs(folder)
+        script(PROGRAM).lay_inputs(folder)
         laid = {path.read_bytes() for path in folder.iterdir()}
-        self.assertEqual(laid, {*inputs, *script_of.first_inputs().values()})
+        self.assertEqual(laid, {*kept, *inputs.first_inputs().values()})
 
 
 class Processes(unittest.TestCase):
@@ -235,22 +231,21 @@ class Findings(unittest.TestCase):
         folder, script_of = new_folder(self), script(PROGRAM)
         library = made(folder)
         program = script_of.compiled(str(library), folder)
-        first, corpus = set(script_of.first_inputs().values()), folder / "corpus"
+        first, corpus = set(inputs.first_inputs().values()), folder / "corpus"
         # Two that reach the same, of which one suffices, and one that reaches what no trace does.
         calls = {b"\1\x0a\x0e\0\7\x10", b"\1\x0a\x0e\0\7\x10\x0e\0\7\x10", b"\1\x0a\x0b"}
         corpus.mkdir()
         for number, data in enumerate(first | calls):
             (corpus / str(number)).write_bytes(data)
-        with patch.object(kept, "KEPT", folder / "kept"):
+        with patch.object(inputs, "KEPT", folder / "kept"):
             script_of.keep_inputs(program, corpus)
-            inputs = kept.kept_inputs()
-        self.assertEqual(inputs, sorted(inputs, key=kept.by_length))
-        self.assertTrue(inputs)
-        self.assertLess(len(inputs), len(first | calls))
-        self.assertFalse(set(inputs) & first)
+            kept = inputs.kept_inputs()
+        self.assertTrue(kept)
+        self.assertLess(len(kept), len(first | calls))
+        self.assertFalse(set(kept) & first)
         again = folder / "again"
         again.mkdir()
-        for number, data in enumerate([*inputs, *first]):
+        for number, data in enumerate([*kept, *first]):
             (again / str(number)).write_bytes(data)
         reached = [self.reached(program, it) for it in (corpus, again)]
         self.assertEqual(*reached)
