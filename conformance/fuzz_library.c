@@ -373,8 +373,9 @@ static qaudit_status_t opened(qaudit_status_t returned) {
 
 static qaudit_status_t finish(qaudit *q, qaudit_status_t state) {
     qaudit_status_t returned = qaudit_finish(q), wanted = QAUDIT_FINISHED;
+    bool is_out = state == QAUDIT_OPEN && memory.happened && returned == QAUDIT_OUT_OF_MEMORY;
     if (state == QAUDIT_CLOSED || state == QAUDIT_OUT_OF_MEMORY) wanted = state;
-    check(returned == wanted || (memory.happened && returned == QAUDIT_OUT_OF_MEMORY), "it was not finished");
+    check(returned == wanted || is_out, "it was not finished");
     return returned;
 }
 
