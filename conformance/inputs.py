@@ -70,14 +70,16 @@ def call(command: bytes) -> bytes:
 
 
 def inputs_of(trace: bytes) -> Iterator[bytes]:
-    """A trace as it is fed, as calls, and as calls that are recorded with an allocation refused."""
+    """A trace as it is fed, as calls, and as calls that are recorded, with an allocation refused
+    before or after them."""
     yield b"\0\7" + trace
     calls = b"".join(map(call, commands_of(trace)))
     yield b"\1" + OPEN + calls + TELL + FINISH + TELL
     # Another one in each trace.
-    refused = bytes([len(trace) % REFUSED_WITHIN, 1])
+    refused = REFUSE + bytes([len(trace) % REFUSED_WITHIN, 1])
     asked = REASON + number(ROWS) + ALLOWED + FINISH + TELL
-    yield b"\1" + REFUSE + refused + OPEN_RECORDED + calls + asked
+    yield b"\1" + refused + OPEN_RECORDED + calls + asked
+    yield b"\1" + OPEN_RECORDED + calls + refused + asked
 
 
 def many(time: int, numbers: range, is_eliciting: bool = True) -> bytes:
