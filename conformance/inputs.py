@@ -8,8 +8,9 @@ from collections.abc import Iterable, Iterator
 from runners import FOLDER, traces_of
 from structs import commands_of
 
-# No input is longer.
+# No input is longer, and none that is kept.
 LONGEST = 16_384
+LONGEST_KEPT = 1_024
 # A line for each, the shortest first, with each byte as Python writes it in a text.
 KEPT = FOLDER / "fuzz_library.inputs"
 ESCAPES = "unicode_escape"
