@@ -89,10 +89,10 @@ def commit_of(*folders: str) -> str:
     return f"{commit} with changes" if is_changed else commit
 
 
-def key_of(row: str) -> tuple[str, str]:
+def key_of(row: str) -> tuple[str, list[int]]:
     """The program of a row, and its seeds."""
     cells = row.split(" | ")
-    return cells[0], cells[5]
+    return cells[0], [int(seed) for seed in cells[5].split(", ")]
 
 
 def hours_of(rows: Sequence[str]) -> str:

@@ -276,6 +276,7 @@ class Fuzz(unittest.TestCase):
             figures.Figures("b", 1_234, 61.4, 90, [7, 8], 0, "abc"),
             figures.Figures("a", 1, 3_600, 1_800, [1], 2, "abc with changes"),
             figures.Figures("b", 9, 1, 0.6, [7], 0, "def"),
+            figures.Figures("b", 3, 1, 0.6, [60], 0, "def"),
             figures.Figures("b", 5, 2, 3.4, [7, 8], 1, "ghi", figures.Branches(1_999, 20_000)),
         ]
         page = f"Before.\n{self.before}After.\n"
@@ -287,6 +288,7 @@ class Fuzz(unittest.TestCase):
             f"| `a` | 1 | 60:00 | 30:00 | 1 | 1 | 2 |  | {day} | abc with changes |\n"
             f"| `b` | 9 | 0:01 | 0:01 | 1 | 7 | 0 |  | {day} | def |\n"
             f"| `b` | 5 | 0:02 | 0:03 | 2 | 7, 8 | 1 | 1,999 of 20,000 | {day} | ghi |\n"
+            f"| `b` | 3 | 0:01 | 0:01 | 1 | 60 | 0 |  | {day} | def |\n"
             f"{UNCOUNTED}"
         )
         told = "In all, by the processors: 0.5 hours of `a`, 0.0 hours of `b`.\n"
