@@ -295,8 +295,8 @@ class Fuzz(unittest.TestCase):
         text = f"{figures.HEAD}{table}\n{told}\n"
         wanted = f"Before.\n{figures.BEGIN}{text}{figures.END}After.\n"
         self.assertEqual(page, wanted)
-        row = f"| `b` | 1,234 | 1:01 | 1:30 | 2 | 7, 8 | 0 |  | {day} | abc |\n"
-        self.assertEqual(row, rows[0].row())
+        first = f"| `b` | 1,234 | 1:01 | 1:30 | 2 | 7, 8 | 0 |  | {day} | abc |\n"
+        self.assertEqual(first, rows[0].row())
         said = "No run here says what it took of the processors.\n"
         self.assertEqual(figures.hours_of([UNCOUNTED]), said)
         with self.assertRaises(figures.NoPlaceError):
