@@ -1,5 +1,6 @@
-/* Commands, as conformance/structs.py writes them: a line each, of a word and of the numbers that the fields of a
- * struct of include/qaudit.h have. `place` stands at what is read next; what is no number ends the program with 2. */
+/* Commands, as conformance/structs.py writes them: a line each, of a word and of the numbers that
+ * the fields of a struct of include/qaudit.h have. `place` stands at what is read next; what is no
+ * number ends the program with 2. */
 #ifndef COMMANDS_H
 #define COMMANDS_H
 

@@ -1,10 +1,12 @@
-/* What conformance/fuzz_library has clang make of this, with libFuzzer and AddressSanitizer, over include/qaudit.h.
+/* What conformance/fuzz_library has clang make of this, with libFuzzer and AddressSanitizer, over
+ * include/qaudit.h.
  *
- * The first byte of an input says what it is. If it is even, the second is the size of a piece, and the rest a trace,
- * which is fed in such pieces and as a whole: the two reports must be one. If it is odd, the rest are calls: a byte
- * for the function, and its numbers, each as a byte below 0xE0, or as 0xE0, 0xE1 or 0xE2 and 2, 4 or 8 bytes, or as
- * the byte of a number at a limit. What a call returns must be what the header promises. One of the calls is none: it
- * says which allocations from then on are refused.
+ * The first byte of an input says what it is. If it is even, the second is the size of a piece, and
+ * the rest a trace, which is fed in such pieces and as a whole: the two reports must be one. If it
+ * is odd, the rest are calls: a byte for the function, and its numbers, each as a byte below 0xE0,
+ * or as 0xE0, 0xE1 or 0xE2 and 2, 4 or 8 bytes, or as the byte of a number at a limit. What a call
+ * returns must be what the header promises. One of the calls is none: it says which allocations
+ * from then on are refused.
  */
 #include "qaudit.h"
 
@@ -28,7 +30,7 @@ static void check(bool is_right, const char *what) {
     abort();
 }
 
-/* ---- memory: the linker takes these two for malloc and realloc; what is made here comes from calloc */
+/* ---- memory: the linker takes these two for malloc and realloc; here blocks come from calloc */
 
 typedef struct refusals {
     uint8_t before; /* allocations before the first that is refused */
@@ -62,7 +64,9 @@ void *__wrap_realloc(void *old, size_t size);
 
 void *__wrap_malloc(size_t size) { return is_refused() ? NULL : __real_malloc(size); }
 
-void *__wrap_realloc(void *old, size_t size) { return is_refused() ? NULL : __real_realloc(old, size); }
+void *__wrap_realloc(void *old, size_t size) {
+    return is_refused() ? NULL : __real_realloc(old, size);
+}
 
 /* ---- the input */
 
@@ -79,9 +83,10 @@ static uint8_t next(input *in) {
 
 static uint64_t number(input *in) {
     static const uint64_t limits[] = {
-        UINT64_MAX, UINT64_MAX - 1, INT64_MAX, 1000000000000000, 1000000000000001, 4611686018427387903,
-        4611686018427387904, UINT32_MAX, 4294967296, 65527, 65528, 65536, 1200, 1199, 16383000, 16383001,
-        1000000000, 1000000001, 2400, 12000, 333000, 100000, 25000, 65535, 1024, 1025, 4096, 255, 256};
+        UINT64_MAX, UINT64_MAX - 1, INT64_MAX, 1000000000000000, 1000000000000001,
+        4611686018427387903, 4611686018427387904, UINT32_MAX, 4294967296, 65527, 65528, 65536,
+        1200, 1199, 16383000, 16383001, 1000000000, 1000000001, 2400, 12000, 333000, 100000, 25000,
+        65535, 1024, 1025, 4096, 255, 256};
     uint8_t first = next(in);
     uint64_t value = 0;
     int i, width;
@@ -109,7 +114,9 @@ static void *copy(const void *from, size_t size) {
 typedef size_t (*put)(qaudit *q, uint8_t *out, size_t room);
 
 /* Whether a text has the length that it has, or none for want of memory. */
-static bool is_length(size_t count, size_t wanted) { return count == wanted || (memory.happened && count == 0); }
+static bool is_length(size_t count, size_t wanted) {
+    return count == wanted || (memory.happened && count == 0);
+}
 
 static size_t text_of(qaudit *q, put function, size_t most, uint8_t *text) {
     uint8_t guarded[REPORT + GUARD], before[REPORT + GUARD];
@@ -118,7 +125,8 @@ static size_t text_of(qaudit *q, put function, size_t most, uint8_t *text) {
     memcpy(guarded, before, sizeof guarded);
     count = function(q, guarded, most);
     check(count <= most, "a text is longer than the header says");
-    for (i = count; i < sizeof guarded; i++) check(guarded[i] == 0xA5, "a text has bytes behind it");
+    for (i = count; i < sizeof guarded; i++)
+        check(guarded[i] == 0xA5, "a text has bytes behind it");
     memcpy(text, guarded, count);
     if (count) {
         memcpy(guarded, before, sizeof guarded);
@@ -146,7 +154,8 @@ static void tell(qaudit *q, qaudit_status_t state) {
     first = text_of(q, qaudit_first_line, FIRST_LINE, line);
     check(is_length(count > 0, is_known), "a report without a verdict, or none with it");
     check(is_length(first > 0, is_known), "a first line without a verdict, or none with it");
-    check(!count || (first <= count && memcmp(text, line, first) == 0), "the first line is another");
+    check(!count || (first <= count && memcmp(text, line, first) == 0),
+          "the first line is another");
 }
 
 /* What a call hands in, by which it is known how it may take nothing. */
@@ -159,7 +168,8 @@ static bool took_nothing(qaudit_status_t returned, handed what) {
 }
 
 /* How far an audit is after a call, and whether the call may return that. */
-static qaudit_status_t after(qaudit *q, qaudit_status_t state, qaudit_status_t returned, handed what) {
+static qaudit_status_t after(qaudit *q, qaudit_status_t state, qaudit_status_t returned,
+                             handed what) {
     if (took_nothing(returned, what)) returned = state;
     if (state == QAUDIT_OPEN) {
         bool is_out = returned == QAUDIT_OUT_OF_MEMORY && memory.happened;
@@ -325,7 +335,8 @@ static qaudit_status_t metrics(qaudit *q, input *in) {
 
 /* A name ends within its buffer, and one of which there is no room is not written. */
 static void names(input *in) {
-    static size_t (*const functions[])(uint32_t, uint8_t *, size_t) = {qaudit_rule_name, qaudit_fault_name, qaudit_key_name};
+    static size_t (*const functions[])(uint32_t, uint8_t *, size_t) = {
+        qaudit_rule_name, qaudit_fault_name, qaudit_key_name};
     size_t (*function)(uint32_t, uint8_t *, size_t) = functions[next(in) % 3];
     uint32_t which = small(in);
     uint8_t text[NAME + GUARD];
@@ -333,16 +344,18 @@ static void names(input *in) {
     memset(text, 0xA5, sizeof text);
     count = function(which, text, room);
     check(count <= NAME, "a name is longer than the header says");
-    for (i = count <= room ? count : 0; i < sizeof text; i++) check(text[i] == 0xA5, "a name was written where it has no room");
+    for (i = count <= room ? count : 0; i < sizeof text; i++)
+        check(text[i] == 0xA5, "a name was written where it has no room");
 }
 
-/* A reason is written where it has room, and in no other place; there is none if nothing is open. */
+/* A reason is written where it has room, and in no other place; none if nothing is open. */
 static void reason(qaudit *q, input *in, qaudit_status_t state) {
     uint16_t rows = (uint16_t)number(in);
     uint8_t none = 0xA5, *text;
     size_t count = qaudit_around(q, rows, &none, 0), first = qaudit_why(q, &none, 0), written;
     check(none == 0xA5, "a reason was written where it has no room");
-    check(memory.happened || (first <= count && (first > 0) == (count > 0)), "rows take away from the reason");
+    check(memory.happened || (first <= count && (first > 0) == (count > 0)),
+          "rows take away from the reason");
     check(state != QAUDIT_CLOSED || count == 0, "a reason without a session");
     if (!count) return;
     text = (uint8_t *)calloc(count, 1);
@@ -362,12 +375,14 @@ static void allowed(qaudit *q, qaudit_status_t state) {
     count = qaudit_allowed(q, all, MOST_ALLOWED);
     check(state != QAUDIT_CLOSED || count == 0, "something was allowed without a session");
     check(count <= MOST_ALLOWED, "more was allowed than the header says");
-    check(memcmp(all + count, before, sizeof all - count * sizeof *all) == 0, "allowances have something behind them");
+    check(memcmp(all + count, before, sizeof all - count * sizeof *all) == 0,
+          "allowances have something behind them");
 }
 
 /* How far an audit is after it was opened. */
 static qaudit_status_t opened(qaudit_status_t returned) {
-    check(returned == QAUDIT_OPEN || (memory.happened && returned == QAUDIT_CLOSED), "it was not opened");
+    check(returned == QAUDIT_OPEN || (memory.happened && returned == QAUDIT_CLOSED),
+          "it was not opened");
     return returned;
 }
 
@@ -453,7 +468,8 @@ static void feed_trace(input *in) {
     uint8_t whole[REPORT], pieces[REPORT];
     size_t piece = next(in);
     size_t count = report_of(in->at, in->left, 0, whole);
-    check(report_of(in->at, in->left, piece ? piece : 1, pieces) == count, "the pieces have another report");
+    check(report_of(in->at, in->left, piece ? piece : 1, pieces) == count,
+          "the pieces have another report");
     check(memcmp(whole, pieces, count) == 0, "the pieces have another report");
 }
 

@@ -1,22 +1,25 @@
-/* What conformance/library has a C and a C++ compiler make of this, over include/qaudit.h and libqaudit.a:
+/* What conformance/library has a C and a C++ compiler make of this, over include/qaudit.h and
+ * libqaudit.a:
  *
  *     library pieces N       feeds standard input in pieces of N bytes
  *     library events         hands in what the commands of standard input say, which are below
  *     library calls          makes the calls that they say, and writes what each returns
- *     library refused N      feeds standard input in pieces of N bytes with each allocation refused in turn
+ *     library refused N      feeds it in pieces of N bytes with each allocation refused in turn
  *     library orders         calls each function where it has nothing to do
  *     library many           hands in events of one range up to very many
  *     library kept           counts what events with ranges ask for behind the first: nothing
- *     library sizes ROWS     feeds standard input, and asks for what is told with buffers of each size
- *     library record         feeds standard input and very many blank lines, and asks for what is told
- *     library why ROWS N     feeds standard input in pieces of N bytes, and writes why it is refused, with so many rows
+ *     library sizes ROWS     feeds it, and asks for what is told with buffers of each size
+ *     library record         feeds it and very many blank lines, and asks for what is told
+ *     library why ROWS N     feeds it in pieces of N bytes, and writes why it is refused, with so
+ *                            many rows
  *     library said ROWS      the same of what the commands of standard input say
- *     library allowed        feeds standard input, and writes what its header allowed: a line of numbers for each rule
- *     library unrecorded N   feeds standard input in pieces of N bytes, and asks for all this, with each allocation refused
- *                            in turn
+ *     library allowed        feeds it, and writes what its header allowed: a line of numbers for
+ *                            each rule
+ *     library unrecorded N   feeds it in pieces of N bytes, and asks for all this, with each
+ *                            allocation refused in turn
  *
- * The first two write the report. A command is a line, and its numbers are the fields of a struct or
- * the arguments of a call; one that has none has a 0:
+ * The first two write the report. A command is a line, and its numbers are the fields of a struct
+ * or the arguments of a call; one that has none has a 0:
  *
  *     feed COUNT             the COUNT bytes behind the line are fed
  *     header, sent, ack, lost, timer, discard, confirmed, keys, metrics
@@ -51,9 +54,9 @@ void __wrap_free(void *block);
 #endif
 
 static int is_counting = 0;
-static long left = -1;     /* allocations before the one that is refused; none is where it is negative */
-static long calls = 0;     /* allocations so far */
-static long blocks = 0;    /* blocks that were not given back */
+static long left = -1;  /* allocations before the one that is refused; none if it is negative */
+static long calls = 0;  /* allocations so far */
+static long blocks = 0; /* blocks that were not given back */
 
 static int is_refused(void) {
     calls++;
@@ -112,38 +115,49 @@ static int fail(const char *what) {
 
 /* ---- the report */
 
+static const char *const words[] = {"accepted\n", "refused ", "unreadable "};
+
+/* Whether the first line of a report is the one of the numbers and their names, as "refused line 7
+ * V7 past-window". */
+static bool is_named(const qaudit_told *told, const uint8_t *line, size_t count) {
+    char wanted[ROOM];
+    uint8_t name[64], key[64];
+    bool is_refused = told->kind == QAUDIT_REFUSED;
+    size_t name_count = is_refused ? qaudit_rule_name(told->code, name, sizeof name)
+                                   : qaudit_fault_name(told->code, name, sizeof name);
+    size_t key_count = qaudit_key_name(told->subject, key, sizeof key);
+    sprintf(wanted, "%sline %" PRIu64 " %c%" PRIu32 " %.*s%s%.*s\n", words[told->kind - 1],
+            told->line, is_refused ? 'V' : 'F', told->code, (int)name_count, (const char *)name,
+            key_count ? " " : "", (int)key_count, (const char *)key);
+    return strlen(wanted) == count && memcmp(wanted, line, count) == 0;
+}
+
 static int tell(qaudit *q) {
     static uint8_t text[ROOM], line[ROOM];
-    static const char *const words[] = {"accepted\n", "refused ", "unreadable "};
     qaudit_told told;
     size_t count, first;
     if (!qaudit_verdict(q, &told)) return fail("there is no verdict");
     count = qaudit_report(q, text, ROOM);
     first = qaudit_first_line(q, line, ROOM);
-    if (count == 0 || count > ROOM || first == 0 || first > count) return fail("there is no report");
+    if (count == 0 || count > ROOM || first == 0 || first > count)
+        return fail("there is no report");
     if (memcmp(text, line, first) != 0) return fail("the first line is another");
     if (told.kind < 1 || told.kind > 3) return fail("the verdict has no kind");
-    if (strncmp((const char *)text, words[told.kind - 1], strlen(words[told.kind - 1])) != 0) return fail("the verdict is another");
-    if (told.kind != QAUDIT_ACCEPTED) {
-        /* "refused line 7 V7 past-window", from the numbers and the names. */
-        char wanted[ROOM];
-        uint8_t name[64], key[64];
-        size_t name_count = told.kind == QAUDIT_REFUSED ? qaudit_rule_name(told.code, name, sizeof name)
-                                                        : qaudit_fault_name(told.code, name, sizeof name);
-        size_t key_count = qaudit_key_name(told.subject, key, sizeof key);
-        sprintf(wanted, "%sline %" PRIu64 " %c%" PRIu32 " %.*s%s%.*s\n", words[told.kind - 1], told.line,
-                told.kind == QAUDIT_REFUSED ? 'V' : 'F', told.code, (int)name_count, (const char *)name,
-                key_count ? " " : "", (int)key_count, (const char *)key);
-        if (strlen(wanted) != first || memcmp(wanted, line, first) != 0) return fail("the names are others");
-    }
+    if (strncmp((const char *)text, words[told.kind - 1], strlen(words[told.kind - 1])) != 0)
+        return fail("the verdict is another");
+    if (told.kind != QAUDIT_ACCEPTED && !is_named(&told, line, first))
+        return fail("the names are others");
     if (told.has_totals) {
         char wanted[ROOM];
-        sprintf(wanted, "events %" PRIu64 "\nwindow %" PRIu64 "\n", told.totals.events, told.totals.window);
-        if (first + strlen(wanted) > count || memcmp(text + first, wanted, strlen(wanted)) != 0) return fail("the totals are others");
+        sprintf(wanted, "events %" PRIu64 "\nwindow %" PRIu64 "\n", told.totals.events,
+                told.totals.window);
+        if (first + strlen(wanted) > count || memcmp(text + first, wanted, strlen(wanted)) != 0)
+            return fail("the totals are others");
     } else if (count != first) {
         return fail("there are totals");
     }
-    if (qaudit_report(q, line, count - 1) != count || memcmp(line, text, first) != 0) return fail("a short buffer was written to");
+    if (qaudit_report(q, line, count - 1) != count || memcmp(line, text, first) != 0)
+        return fail("a short buffer was written to");
     fwrite(text, 1, count, stdout);
     return 0;
 }
@@ -254,7 +268,8 @@ static int run_events(void) {
     qaudit_status_t status = qaudit_open(&q);
     int failed;
     place = (const char *)all.bytes;
-    while (place < (const char *)all.bytes + all.count && status == QAUDIT_OPEN) status = hand_next(&q);
+    while (place < (const char *)all.bytes + all.count && status == QAUDIT_OPEN)
+        status = hand_next(&q);
     if (status == QAUDIT_OPEN) status = qaudit_finish(&q);
     if (status != QAUDIT_FIXED && status != QAUDIT_FINISHED) {
         fprintf(stderr, "status %" PRIu32 "\n", status);
@@ -274,7 +289,8 @@ static int tell_verdict(qaudit *q) {
     qaudit_told told;
     bool is_known = qaudit_verdict(q, &told);
     size_t count = qaudit_report(q, text, ROOM);
-    if (is_known != (count > 0) || count > ROOM) return fail("a verdict without a report, or a report without a verdict");
+    if (is_known != (count > 0) || count > ROOM)
+        return fail("a verdict without a report, or a report without a verdict");
     printf("report %zu\n", count);
     fwrite(text, 1, count, stdout);
     return 0;
@@ -330,11 +346,13 @@ static int tell_reason(qaudit *q, uint16_t rows) {
     if (put_reason(q, rows, text, count - 1) != count) return fail("the reason has another length");
     for (at = 0; at < count; at++)
         if (text[at] != 0xA5) return fail("a reason was put where it just has no room");
-    if (put_reason(q, rows, text, count + 1) != count || text[count] != 0xA5) return fail("something was put behind the reason");
+    if (put_reason(q, rows, text, count + 1) != count || text[count] != 0xA5)
+        return fail("something was put behind the reason");
     if (!rows) {
         uint8_t *other = (uint8_t *)__real_malloc(count);
         if (!other) exit(2);
-        if (qaudit_around(q, 0, other, count) != count || memcmp(text, other, count) != 0) return fail("without rows the reason is another");
+        if (qaudit_around(q, 0, other, count) != count || memcmp(text, other, count) != 0)
+            return fail("without rows the reason is another");
         __real_free(other);
     }
     fwrite(text, 1, count, stdout);
@@ -360,7 +378,8 @@ static int run_said(uint16_t rows) {
     qaudit_status_t status = qaudit_open_recorded(&q);
     int failed;
     place = (const char *)all.bytes;
-    while (place < (const char *)all.bytes + all.count && status == QAUDIT_OPEN) status = hand_next(&q);
+    while (place < (const char *)all.bytes + all.count && status == QAUDIT_OPEN)
+        status = hand_next(&q);
     failed = tell_reason(&q, rows);
     qaudit_close(&q);
     __real_free(all.bytes);
@@ -381,14 +400,20 @@ static int run_allowed(void) {
     feed_pieces(&q, &all, 4096);
     count = qaudit_allowed(&q, allowed, 0);
     if (count > MOST_ALLOWED) return fail("more was allowed than there is");
-    if (count && qaudit_allowed(&q, allowed, count - 1) != count) return fail("another number was allowed");
-    if (memcmp(allowed, before, sizeof allowed) != 0) return fail("it was put where it has no room");
-    if (qaudit_allowed(&q, allowed, MOST_ALLOWED) != count) return fail("another number was allowed");
-    if (memcmp(allowed + count, before, (MOST_ALLOWED - count) * sizeof *allowed) != 0) return fail("something was put behind it");
+    if (count && qaudit_allowed(&q, allowed, count - 1) != count)
+        return fail("another number was allowed");
+    if (memcmp(allowed, before, sizeof allowed) != 0)
+        return fail("it was put where it has no room");
+    if (qaudit_allowed(&q, allowed, MOST_ALLOWED) != count)
+        return fail("another number was allowed");
+    if (memcmp(allowed + count, before, (MOST_ALLOWED - count) * sizeof *allowed) != 0)
+        return fail("something was put behind it");
     for (i = 0; i < count; i++) {
         const qaudit_allowance *it = allowed + i;
-        printf("%" PRIu32 " %" PRIu32 " %" PRIu32 " %" PRIu64 " %" PRIu64 " %" PRIu64 " %" PRIu64 " %" PRIu64 " %d\n", it->rule,
-               it->subject, it->key, it->count, it->first, it->last, it->greatest, it->limit, it->has_limit);
+        printf("%" PRIu32 " %" PRIu32 " %" PRIu32 " %" PRIu64 " %" PRIu64 " %" PRIu64 " %" PRIu64
+               " %" PRIu64 " %d\n",
+               it->rule, it->subject, it->key, it->count, it->first, it->last, it->greatest,
+               it->limit, it->has_limit);
     }
     qaudit_close(&q);
     __real_free(all.bytes);
@@ -432,8 +457,11 @@ static int run_all_unrecorded(size_t piece) {
     total = calls;
     for (refused = 0; refused < total; refused++) {
         if (run_unrecorded(&all, piece, refused, &told)) return 1;
-        if (told.count && (told.count != whole.count || memcmp(told.text, whole.text, whole.count) != 0)) return fail("the reason is another");
-        if (told.items && (told.items != whole.items || memcmp(told.allowed, whole.allowed, sizeof whole.allowed) != 0))
+        if (told.count &&
+            (told.count != whole.count || memcmp(told.text, whole.text, whole.count) != 0))
+            return fail("the reason is another");
+        if (told.items && (told.items != whole.items ||
+                           memcmp(told.allowed, whole.allowed, sizeof whole.allowed) != 0))
             return fail("something else was allowed");
     }
     printf("%ld\n", total);
@@ -455,13 +483,15 @@ static int run_refused(const input *all, size_t piece, long refused, uint8_t *te
     *count = qaudit_report(&q, text, ROOM);
     again = qaudit_feed(&q, all->bytes, all->count ? 1 : 0);
     if (again != status) return fail("its status changed");
-    if ((status == QAUDIT_OUT_OF_MEMORY || status == QAUDIT_CLOSED) && (*count || qaudit_verdict(&q, &told)))
+    if ((status == QAUDIT_OUT_OF_MEMORY || status == QAUDIT_CLOSED) &&
+        (*count || qaudit_verdict(&q, &told)))
         return fail("it came to a verdict without memory");
     qaudit_close(&q);
     qaudit_close(&q);
     is_counting = 0;
     if (blocks) return fail("a block was lost");
-    if (refused < 0 && status != QAUDIT_FIXED && status != QAUDIT_FINISHED) return fail("it came to no verdict");
+    if (refused < 0 && status != QAUDIT_FIXED && status != QAUDIT_FINISHED)
+        return fail("it came to no verdict");
     return 0;
 }
 
@@ -474,7 +504,8 @@ static int run_all_refused(size_t piece) {
     total = calls;
     for (refused = 0; refused < total; refused++) {
         if (run_refused(&all, piece, refused, text, &count)) return 1;
-        if (count && (count != whole_count || memcmp(text, whole, count) != 0)) return fail("the report is another");
+        if (count && (count != whole_count || memcmp(text, whole, count) != 0))
+            return fail("the report is another");
     }
     printf("%ld\n", total);
     return 0;
@@ -482,52 +513,105 @@ static int run_all_refused(size_t piece) {
 
 /* ---- orders of calls */
 
-static int run_orders(void) {
-    static uint8_t out[ROOM];
-    static const uint8_t half[] = "{\"event\"";
-    qaudit q = {NULL, false};
+static const uint8_t half[] = "{\"event\"";
+static uint8_t answer[ROOM];
+
+static bool is_any_told(qaudit *q) {
     qaudit_told told;
+    return qaudit_verdict(q, &told) || qaudit_first_line(q, answer, ROOM) != 0 ||
+           qaudit_report(q, answer, ROOM) != 0;
+}
+
+static bool has_reason(qaudit *q) {
     qaudit_allowance allowance;
-    qaudit_packet packet;
-    qaudit_range range;
-    memset(&packet, 0, sizeof packet);
-    packet.size = 1200;
-    range.least = range.greatest = 0;
-    if (qaudit_feed(&q, half, 1) != QAUDIT_CLOSED || qaudit_sent(&q, &packet) != QAUDIT_CLOSED) return fail("closed: it took something");
-    if (qaudit_finish(&q) != QAUDIT_CLOSED || qaudit_status(&q) != QAUDIT_CLOSED) return fail("closed: it is open");
-    if (qaudit_verdict(&q, &told) || qaudit_report(&q, out, ROOM) != 0) return fail("closed: it has a verdict");
-    if (qaudit_why(&q, out, ROOM) != 0 || qaudit_around(&q, 1, out, ROOM) != 0 || qaudit_allowed(&q, &allowance, 1) != 0)
-        return fail("closed: it has a reason");
-    qaudit_close(&q);
-    if (qaudit_open(&q) != QAUDIT_OPEN || qaudit_open(&q) != QAUDIT_OPEN) return fail("it was not opened again");
-    if (qaudit_why(&q, out, ROOM) != 0 || qaudit_around(&q, 1, out, ROOM) != 0 || qaudit_allowed(&q, &allowance, 1) != 0)
-        return fail("nothing was recorded: it has a reason");
-    if (qaudit_verdict(&q, &told) || qaudit_first_line(&q, out, ROOM) != 0 || qaudit_report(&q, out, ROOM) != 0) return fail("open: it has a verdict");
+    return qaudit_why(q, answer, ROOM) != 0 || qaudit_around(q, 1, answer, ROOM) != 0 ||
+           qaudit_allowed(q, &allowance, 1) != 0;
+}
+
+static bool is_unreadable(qaudit *q, uint32_t code, uint64_t line) {
+    qaudit_told told;
+    return qaudit_verdict(q, &told) && told.kind == QAUDIT_UNREADABLE && told.code == code &&
+           told.line == line && !told.has_totals;
+}
+
+static int closed_fails(qaudit *q, const qaudit_packet *packet) {
+    if (qaudit_feed(q, half, 1) != QAUDIT_CLOSED || qaudit_sent(q, packet) != QAUDIT_CLOSED)
+        return fail("closed: it took something");
+    if (qaudit_finish(q) != QAUDIT_CLOSED || qaudit_status(q) != QAUDIT_CLOSED)
+        return fail("closed: it is open");
+    if (is_any_told(q)) return fail("closed: it has a verdict");
+    if (has_reason(q)) return fail("closed: it has a reason");
+    qaudit_close(q);
+    return 0;
+}
+
+static int open_fails(qaudit *q, qaudit_packet packet) {
+    qaudit_range range = {0, 0};
+    if (qaudit_open(q) != QAUDIT_OPEN || qaudit_open(q) != QAUDIT_OPEN)
+        return fail("it was not opened again");
+    if (has_reason(q)) return fail("nothing was recorded: it has a reason");
+    if (is_any_told(q)) return fail("open: it has a verdict");
     packet.space = 3;
-    if (qaudit_sent(&q, &packet) != QAUDIT_OUT_OF_RANGE) return fail("it took a space that is none");
+    if (qaudit_sent(q, &packet) != QAUDIT_OUT_OF_RANGE)
+        return fail("it took a space that is none");
     packet.space = QAUDIT_APP;
     packet.size = 0;
-    if (qaudit_sent(&q, &packet) != QAUDIT_OUT_OF_RANGE) return fail("it took a packet of no bytes");
+    if (qaudit_sent(q, &packet) != QAUDIT_OUT_OF_RANGE)
+        return fail("it took a packet of no bytes");
     packet.size = 1200;
-    if (qaudit_lost(&q, 0, QAUDIT_APP, &range, 0) != QAUDIT_OUT_OF_RANGE) return fail("it took no ranges");
-    if (qaudit_discard(&q, 0, QAUDIT_APP) != QAUDIT_OUT_OF_RANGE) return fail("it discarded a space that stays");
-    if (qaudit_feed(&q, half, sizeof half - 1) != QAUDIT_OPEN) return fail("it took no half of a line");
-    if (qaudit_sent(&q, &packet) != QAUDIT_INSIDE_LINE) return fail("it took an event inside a line");
-    if (qaudit_finish(&q) != QAUDIT_FINISHED || qaudit_finish(&q) != QAUDIT_FINISHED) return fail("it was not finished");
-    if (qaudit_sent(&q, &packet) != QAUDIT_FINISHED || qaudit_feed(&q, half, 1) != QAUDIT_FINISHED) return fail("finished: it took something");
-    if (!qaudit_verdict(&q, &told) || told.kind != QAUDIT_UNREADABLE || told.line != 1 || told.code != 1) return fail("the verdict is another");
-    if (qaudit_open(&q) != QAUDIT_OPEN || qaudit_sent(&q, &packet) != QAUDIT_FIXED) return fail("an event before a header was good");
-    if (!qaudit_verdict(&q, &told) || told.kind != QAUDIT_UNREADABLE || told.code != 7 || told.has_totals) return fail("its fault is another");
-    if (qaudit_open_recorded(&q) != QAUDIT_OPEN || qaudit_open_recorded(&q) != QAUDIT_OPEN) return fail("it was not opened again");
-    if (qaudit_why(&q, out, ROOM) == 0 || qaudit_status(&q) != QAUDIT_OPEN) return fail("there is no reason, or it ended the audit");
-    if (qaudit_sent(&q, &packet) != QAUDIT_FIXED || qaudit_why(&q, out, ROOM) == 0) return fail("there is no reason");
-    if (memcmp(out, "-:1: unreadable F7", 18) != 0) return fail("the reason is another");
-    qaudit_close(&q);
-    if (q.at != NULL || q.is_open) return fail("it is not all zero");
-    if (qaudit_rule_name(0, out, ROOM) || qaudit_rule_name(20, out, ROOM) || qaudit_fault_name(12, out, ROOM) || qaudit_key_name(42, out, ROOM))
-        return fail("what is none has a name");
-    if (qaudit_rule_name(7, out, ROOM) != 11 || memcmp(out, "past-window", 11) != 0) return fail("V7 has another name");
+    if (qaudit_lost(q, 0, QAUDIT_APP, &range, 0) != QAUDIT_OUT_OF_RANGE)
+        return fail("it took no ranges");
+    if (qaudit_discard(q, 0, QAUDIT_APP) != QAUDIT_OUT_OF_RANGE)
+        return fail("it discarded a space that stays");
+    if (qaudit_feed(q, half, sizeof half - 1) != QAUDIT_OPEN)
+        return fail("it took no half of a line");
+    if (qaudit_sent(q, &packet) != QAUDIT_INSIDE_LINE)
+        return fail("it took an event inside a line");
     return 0;
+}
+
+static int finished_fails(qaudit *q, const qaudit_packet *packet) {
+    if (qaudit_finish(q) != QAUDIT_FINISHED || qaudit_finish(q) != QAUDIT_FINISHED)
+        return fail("it was not finished");
+    if (qaudit_sent(q, packet) != QAUDIT_FINISHED || qaudit_feed(q, half, 1) != QAUDIT_FINISHED)
+        return fail("finished: it took something");
+    if (!is_unreadable(q, 1, 1)) return fail("the verdict is another");
+    return 0;
+}
+
+static int decided_fails(qaudit *q, const qaudit_packet *packet) {
+    if (qaudit_open(q) != QAUDIT_OPEN || qaudit_sent(q, packet) != QAUDIT_FIXED)
+        return fail("an event before a header was good");
+    if (!is_unreadable(q, 7, 1)) return fail("its fault is another");
+    if (qaudit_open_recorded(q) != QAUDIT_OPEN || qaudit_open_recorded(q) != QAUDIT_OPEN)
+        return fail("it was not opened again");
+    if (qaudit_why(q, answer, ROOM) == 0 || qaudit_status(q) != QAUDIT_OPEN)
+        return fail("there is no reason, or it ended the audit");
+    if (qaudit_sent(q, packet) != QAUDIT_FIXED || qaudit_why(q, answer, ROOM) == 0)
+        return fail("there is no reason");
+    if (memcmp(answer, "-:1: unreadable F7", 18) != 0) return fail("the reason is another");
+    qaudit_close(q);
+    if (q->at != NULL || q->is_open) return fail("it is not all zero");
+    return 0;
+}
+
+static int names_fail(void) {
+    if (qaudit_rule_name(0, answer, ROOM) || qaudit_rule_name(20, answer, ROOM) ||
+        qaudit_fault_name(12, answer, ROOM) || qaudit_key_name(42, answer, ROOM))
+        return fail("what is none has a name");
+    if (qaudit_rule_name(7, answer, ROOM) != 11 || memcmp(answer, "past-window", 11) != 0)
+        return fail("V7 has another name");
+    return 0;
+}
+
+static int run_orders(void) {
+    qaudit q = {NULL, false};
+    qaudit_packet packet;
+    memset(&packet, 0, sizeof packet);
+    packet.space = QAUDIT_APP;
+    packet.size = 1200;
+    return closed_fails(&q, &packet) || open_fails(&q, packet) || finished_fails(&q, &packet) ||
+           decided_fails(&q, &packet) || names_fail();
 }
 
 #include "library_amounts.h"
@@ -543,9 +627,11 @@ int main(int argc, char **argv) {
     if (argc == 2 && strcmp(argv[1], "kept") == 0) return run_kept();
     if (argc == 3 && strcmp(argv[1], "sizes") == 0) return run_sizes((uint16_t)piece);
     if (argc == 2 && strcmp(argv[1], "record") == 0) return run_record();
-    if (argc == 4 && strcmp(argv[1], "why") == 0) return run_why((uint16_t)piece, (size_t)strtoull(argv[3], NULL, 10));
+    if (argc == 4 && strcmp(argv[1], "why") == 0)
+        return run_why((uint16_t)piece, (size_t)strtoull(argv[3], NULL, 10));
     if (argc == 3 && strcmp(argv[1], "said") == 0) return run_said((uint16_t)piece);
     if (argc == 2 && strcmp(argv[1], "allowed") == 0) return run_allowed();
-    if (argc == 3 && piece > 0 && strcmp(argv[1], "unrecorded") == 0) return run_all_unrecorded(piece);
+    if (argc == 3 && piece > 0 && strcmp(argv[1], "unrecorded") == 0)
+        return run_all_unrecorded(piece);
     return 2;
 }

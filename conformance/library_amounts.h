@@ -1,4 +1,4 @@
-/* A part of library.c: what is handed in, told and kept in amounts that no trace of the corpus has. */
+/* A part of library.c: what is handed in, told and kept in amounts that no trace here has. */
 #ifndef LIBRARY_AMOUNTS_H
 #define LIBRARY_AMOUNTS_H
 
@@ -13,13 +13,16 @@ static bool begin(qaudit *q) {
     return qaudit_open(q) == QAUDIT_OPEN && qaudit_header(q, &header) == QAUDIT_OPEN;
 }
 
-/* What is returned for an acknowledgment of these ranges, behind a header. One that is out of range leaves the session open. */
-static qaudit_status_t status_of(const qaudit_acknowledgment *ack, const qaudit_range *ranges, size_t count) {
+/* What is returned for an acknowledgment of these ranges, behind a header. One that is out of range
+ * leaves the session open. */
+static qaudit_status_t status_of(const qaudit_acknowledgment *ack, const qaudit_range *ranges,
+                                 size_t count) {
     qaudit q = {NULL, false};
     qaudit_status_t status;
     if (!begin(&q)) return QAUDIT_CLOSED;
     status = qaudit_ack(&q, ack, ranges, count);
-    if (status == QAUDIT_OUT_OF_RANGE && qaudit_ack(&q, ack, ranges, 1) != QAUDIT_FIXED) status = QAUDIT_CLOSED;
+    if (status == QAUDIT_OUT_OF_RANGE && qaudit_ack(&q, ack, ranges, 1) != QAUDIT_FIXED)
+        status = QAUDIT_CLOSED;
     qaudit_close(&q);
     return status;
 }
@@ -35,9 +38,11 @@ static qaudit_status_t status_of_many(uint64_t first) {
     return status_of(&ack, ranges, 2000);
 }
 
-/* The same of a range from 10 to a greatest number and of 1,559 numbers with 19 digits, with a delay and a limit:
+/* The same of a range from 10 to a greatest number and of 1,559 numbers with 19 digits, with a
+ * delay and a limit:
  *
- *     {"event":"ack","ranges":[[10,100],[4000000000000000000,4000000000000000000],..],"space":"app","time":0}
+ *     {"event":"ack","ranges":[[10,100],[4000000000000000000,4000000000000000000],..],
+ *      "space":"app","time":0}
  *
  * has 65,536 bytes, and "delay":1, or "limited":true, more. */
 static void fill_long(qaudit_range *ranges, uint64_t greatest) {
@@ -58,7 +63,8 @@ static qaudit_status_t status_of_long(uint64_t greatest, uint64_t delay, bool li
     return status_of(&ack, ranges, 1560);
 }
 
-/* An acknowledgment whose line is only short enough without "delay":0 and "limited":false is judged, and ends the record. */
+/* An acknowledgment whose line is only short enough without "delay":0 and "limited":false is
+ * judged, and ends the record. */
 static int run_longest(void) {
     static qaudit_range ranges[1560];
     static uint8_t out[ROOM];
@@ -70,11 +76,16 @@ static int run_longest(void) {
     memset(&ack, 0, sizeof ack);
     ack.space = QAUDIT_APP;
     fill_long(ranges, 100);
-    if (qaudit_open_recorded(&q) != QAUDIT_OPEN || qaudit_header(&q, &header) != QAUDIT_OPEN) return fail("it took no header");
-    if (qaudit_ack(&q, &ack, ranges, 1560) != QAUDIT_FIXED) return fail("an acknowledgment with a line of 65,536 bytes was not judged");
-    if (qaudit_why(&q, out, ROOM) != 0) return fail("a line of more than 65,536 bytes was recorded");
-    if (qaudit_open_recorded(&q) != QAUDIT_OPEN || qaudit_header(&q, &header) != QAUDIT_OPEN) return fail("it took no header");
-    if (qaudit_ack(&q, &ack, ranges, 1500) != QAUDIT_FIXED || qaudit_why(&q, out, ROOM) == 0) return fail("a long line was not recorded");
+    if (qaudit_open_recorded(&q) != QAUDIT_OPEN || qaudit_header(&q, &header) != QAUDIT_OPEN)
+        return fail("it took no header");
+    if (qaudit_ack(&q, &ack, ranges, 1560) != QAUDIT_FIXED)
+        return fail("an acknowledgment with a line of 65,536 bytes was not judged");
+    if (qaudit_why(&q, out, ROOM) != 0)
+        return fail("a line of more than 65,536 bytes was recorded");
+    if (qaudit_open_recorded(&q) != QAUDIT_OPEN || qaudit_header(&q, &header) != QAUDIT_OPEN)
+        return fail("it took no header");
+    if (qaudit_ack(&q, &ack, ranges, 1500) != QAUDIT_FIXED || qaudit_why(&q, out, ROOM) == 0)
+        return fail("a long line was not recorded");
     qaudit_close(&q);
     return 0;
 }
@@ -82,8 +93,8 @@ static int run_longest(void) {
 /* So many ranges of one number of one digit are less than a line has room for. */
 #define MOST_RANGES 10000
 
-/* An acknowledgment and a Lost line of each number of ranges up to a hundred, and of each hundredth more behind it, are
- * judged: the packet was never sent. */
+/* An acknowledgment and a Lost line of each number of ranges up to a hundred, and of each hundredth
+ * more behind it, are judged: the packet was never sent. */
 static int run_counts(void) {
     static qaudit_range ranges[MOST_RANGES];
     qaudit_acknowledgment ack;
@@ -93,8 +104,10 @@ static int run_counts(void) {
     ack.space = QAUDIT_APP;
     for (count = 1; count <= MOST_RANGES; count += 1 + count / 100) {
         qaudit q = {NULL, false};
-        if (status_of(&ack, ranges, count) != QAUDIT_FIXED) return fail("an acknowledgment was not judged");
-        if (!begin(&q) || qaudit_lost(&q, 0, QAUDIT_APP, ranges, count) != QAUDIT_FIXED) return fail("a Lost line was not judged");
+        if (status_of(&ack, ranges, count) != QAUDIT_FIXED)
+            return fail("an acknowledgment was not judged");
+        if (!begin(&q) || qaudit_lost(&q, 0, QAUDIT_APP, ranges, count) != QAUDIT_FIXED)
+            return fail("a Lost line was not judged");
         qaudit_close(&q);
     }
     return 0;
@@ -103,18 +116,24 @@ static int run_counts(void) {
 /* What a line says is judged, and was never sent; of what no line says nothing is taken. */
 static int run_many(void) {
     if (run_counts()) return 1;
-    if (status_of_many(0) != QAUDIT_FIXED) return fail("an acknowledgment of many short numbers was not judged");
-    if (status_of_many(4000000000000000000u) != QAUDIT_OUT_OF_RANGE) return fail("an acknowledgment that no line says was taken");
-    if (status_of_long(100, 0, false) != QAUDIT_FIXED) return fail("an acknowledgment with a line of 65,536 bytes was not judged");
-    if (status_of_long(1000, 0, false) != QAUDIT_OUT_OF_RANGE) return fail("an acknowledgment with a line of 65,537 bytes was taken");
-    if (status_of_long(100, 1, false) != QAUDIT_OUT_OF_RANGE) return fail("a delay was left out of a line");
-    if (status_of_long(100, 0, true) != QAUDIT_OUT_OF_RANGE) return fail("a limit was left out of a line");
+    if (status_of_many(0) != QAUDIT_FIXED)
+        return fail("an acknowledgment of many short numbers was not judged");
+    if (status_of_many(4000000000000000000u) != QAUDIT_OUT_OF_RANGE)
+        return fail("an acknowledgment that no line says was taken");
+    if (status_of_long(100, 0, false) != QAUDIT_FIXED)
+        return fail("an acknowledgment with a line of 65,536 bytes was not judged");
+    if (status_of_long(1000, 0, false) != QAUDIT_OUT_OF_RANGE)
+        return fail("an acknowledgment with a line of 65,537 bytes was taken");
+    if (status_of_long(100, 1, false) != QAUDIT_OUT_OF_RANGE)
+        return fail("a delay was left out of a line");
+    if (status_of_long(100, 0, true) != QAUDIT_OUT_OF_RANGE)
+        return fail("a limit was left out of a line");
     return run_longest();
 }
 
 /* ---- memory that is kept */
 
-/* A session, the number of the next packet, and ranges with room for more than it keeps memory for. */
+/* A session, the number of the next packet, and ranges, more than it keeps memory for. */
 typedef struct sender {
     qaudit q;
     uint64_t next;
@@ -135,7 +154,7 @@ static bool send_packets(sender *s, size_t count, uint64_t size, bool in_flight)
     return true;
 }
 
-/* How often an acknowledgment of these ranges asks for memory; less than 0 where it was not taken. */
+/* How often an acknowledgment of these ranges asks for memory; less than 0 if it was not taken. */
 static long asked_by_ack(sender *s, size_t count) {
     qaudit_acknowledgment ack;
     long before = calls;
@@ -159,7 +178,8 @@ static long asked_by_ranges(sender *s, size_t count) {
     return asked_by_ack(s, count);
 }
 
-/* The same of a Lost line with so many ranges, of packets that were sent before three that are acknowledged. */
+/* The same of a Lost line with so many ranges, of packets that were sent before three that are
+ * acknowledged. */
 static long asked_by_losses(sender *s, size_t count) {
     uint64_t first = s->next;
     size_t i;
@@ -182,16 +202,30 @@ static int is_kept(sender *s, long (*asked)(sender *, size_t), size_t count, con
     return 0;
 }
 
-/* Each of these acknowledgments and Lost lines, and that the memory of very many ranges is not kept. */
+/* Each of these acknowledgments and Lost lines, and that the memory of very many ranges is not
+ * kept. */
 static int is_all_kept(sender *s) {
-    if (asked_by_packets(s, 1) < 1) return fail("the first acknowledgment asked for nothing, or was not taken");
-    if (is_kept(s, asked_by_packets, 1, "an acknowledgment asked for memory, or was not taken")) return 1;
-    if (is_kept(s, asked_by_packets, 33, "an acknowledgment of 33 packets asked for memory, or was not taken")) return 1;
-    if (is_kept(s, asked_by_packets, 1000, "an acknowledgment of a thousand packets asked for memory, or was not taken")) return 1;
-    if (is_kept(s, asked_by_ranges, 33, "an acknowledgment of 33 ranges asked for memory, or was not taken")) return 1;
-    if (is_kept(s, asked_by_losses, 33, "a Lost line of 33 ranges asked for memory, or was not taken")) return 1;
-    if (is_kept(s, asked_by_ranges, 1024, "an acknowledgment of 1,024 ranges asked for memory, or was not taken")) return 1;
-    if (asked_by_ranges(s, 2000) < 1) return fail("an acknowledgment of 2,000 ranges asked for nothing, or was not taken");
+    if (asked_by_packets(s, 1) < 1)
+        return fail("the first acknowledgment asked for nothing, or was not taken");
+    if (is_kept(s, asked_by_packets, 1, "an acknowledgment asked for memory, or was not taken"))
+        return 1;
+    if (is_kept(s, asked_by_packets, 33,
+                "an acknowledgment of 33 packets asked for memory, or was not taken"))
+        return 1;
+    if (is_kept(s, asked_by_packets, 1000,
+                "an acknowledgment of a thousand packets asked for memory, or was not taken"))
+        return 1;
+    if (is_kept(s, asked_by_ranges, 33,
+                "an acknowledgment of 33 ranges asked for memory, or was not taken"))
+        return 1;
+    if (is_kept(s, asked_by_losses, 33,
+                "a Lost line of 33 ranges asked for memory, or was not taken"))
+        return 1;
+    if (is_kept(s, asked_by_ranges, 1024,
+                "an acknowledgment of 1,024 ranges asked for memory, or was not taken"))
+        return 1;
+    if (asked_by_ranges(s, 2000) < 1)
+        return fail("an acknowledgment of 2,000 ranges asked for nothing, or was not taken");
     if (asked_by_ranges(s, 1) < 1) return fail("the memory of 2,000 ranges was kept");
     return 0;
 }
@@ -221,11 +255,13 @@ static size_t put_told(qaudit *q, char what, uint16_t rows, uint8_t *out, size_t
     }
 }
 
-/* Whether a text is put into a buffer of each size where it fits, and else nothing; its length is returned always. */
+/* Whether a text is put into a buffer of each size where it fits, and else nothing; its length is
+ * returned always. */
 static int is_put(qaudit *q, char what, uint16_t rows) {
     static uint8_t text[MOST_ROOM], out[MOST_ROOM];
     size_t count = put_told(q, what, rows, text, MOST_ROOM), room, at;
-    if (count == 0 || count >= MOST_ROOM) return fail("there is no text, or a longer one than is wanted here");
+    if (count == 0 || count >= MOST_ROOM)
+        return fail("there is no text, or a longer one than is wanted here");
     for (room = 0; room < MOST_ROOM; room++) {
         size_t put = count <= room ? count : 0;
         memset(out, 0xA5, sizeof out);
@@ -243,7 +279,8 @@ static int run_sizes(uint16_t rows) {
     int failed;
     if (qaudit_open_recorded(&q) != QAUDIT_OPEN) return fail("it is not open");
     feed_pieces(&q, &all, 4096);
-    failed = is_put(&q, 'r', rows) || is_put(&q, 'l', rows) || is_put(&q, 'w', rows) || is_put(&q, 'a', rows);
+    failed = is_put(&q, 'r', rows) || is_put(&q, 'l', rows) || is_put(&q, 'w', rows) ||
+             is_put(&q, 'a', rows);
     qaudit_close(&q);
     __real_free(all.bytes);
     return failed;
@@ -253,7 +290,8 @@ static int run_sizes(uint16_t rows) {
 
 #define BLANK_LINES 2000
 
-/* Behind a trace that is accepted come eight million bytes of blank lines, which change nothing that is told of it. */
+/* Behind a trace that is accepted come eight million bytes of blank lines, which change nothing
+ * that is told of it. */
 static int run_record(void) {
     static uint8_t line[4096], before[MOST_ROOM], behind[MOST_ROOM];
     qaudit_allowance allowed[MOST_ALLOWED], again[MOST_ALLOWED];
@@ -265,14 +303,21 @@ static int run_record(void) {
     line[sizeof line - 1] = '\n';
     memset(allowed, 0, sizeof allowed);
     memset(again, 0, sizeof again);
-    if (qaudit_open_recorded(&q) != QAUDIT_OPEN || qaudit_feed(&q, all.bytes, all.count) != QAUDIT_OPEN) return fail("it is not open");
+    if (qaudit_open_recorded(&q) != QAUDIT_OPEN ||
+        qaudit_feed(&q, all.bytes, all.count) != QAUDIT_OPEN)
+        return fail("it is not open");
     count = qaudit_around(&q, 1, before, MOST_ROOM);
     items = qaudit_allowed(&q, allowed, MOST_ALLOWED);
-    if (count == 0 || count > MOST_ROOM || items == 0 || items > MOST_ALLOWED) return fail("there is no reason, or nothing was allowed");
+    if (count == 0 || count > MOST_ROOM || items == 0 || items > MOST_ALLOWED)
+        return fail("there is no reason, or nothing was allowed");
     for (i = 0; i < BLANK_LINES; i++)
-        if (qaudit_feed(&q, line, sizeof line) != QAUDIT_OPEN) return fail("a blank line was not taken");
-    if (qaudit_around(&q, 1, behind, MOST_ROOM) != count || memcmp(before, behind, count) != 0) return fail("behind blank lines the reason is another");
-    if (qaudit_allowed(&q, again, MOST_ALLOWED) != items || memcmp(allowed, again, sizeof again) != 0) return fail("behind blank lines something else was allowed");
+        if (qaudit_feed(&q, line, sizeof line) != QAUDIT_OPEN)
+            return fail("a blank line was not taken");
+    if (qaudit_around(&q, 1, behind, MOST_ROOM) != count || memcmp(before, behind, count) != 0)
+        return fail("behind blank lines the reason is another");
+    if (qaudit_allowed(&q, again, MOST_ALLOWED) != items ||
+        memcmp(allowed, again, sizeof again) != 0)
+        return fail("behind blank lines something else was allowed");
     qaudit_close(&q);
     __real_free(all.bytes);
     return 0;

@@ -93,6 +93,16 @@ class Crates(unittest.TestCase):
         self.put("crates/low/specs/Low.antt", f"{'a' * 50} → {'b' * 50}\n")
         self.assert_fails("crates/low/specs/Low.antt:1: 103 columns")
 
+    def test_a_long_line_of_another_language_fails(self) -> None:
+        for path in ("include/low.h", "conformance/low.c", "examples/low/low.go"):
+            with self.subTest(path):
+                self.put(path, f"// {'a' * 98}\n")
+                self.assert_fails(f"{path}:1: 101 columns")
+
+    def test_what_was_built_passes(self) -> None:
+        self.put("bindings/rust/target/low.rs", f"// {'a' * 98}\n")
+        self.assertEqual(self.run_check()[0], 0)
+
     def test_columns_are_counted_and_not_bytes(self) -> None:
         self.put("crates/low/specs/Low.antt", f"{'→' * 100}\n")
         self.assertEqual(self.run_check()[0], 0)

@@ -1,11 +1,13 @@
-/* Loaded before a program: holds it where its own code begins, and runs a copy of it for each trial that is
-   asked for. A trial refuses the copy some of its allocations, or has a read or a write of it be short or fail.
-
-   TRIAL_DESCRIPTORS has five numbers with spaces between: of a pipe from which struct trial is read, of one to
-   which struct answer is written for each, and of the files of a copy's standard input, output and error. Of the
-   first two `read` and `write` move the bytes in memory, without a call of the system for each: a copy that moves
-   single bytes makes thousands. What it reads or writes by other calls it does to the files. It begins at the start of
-   the first two, writes over what another copy wrote, and the file of its standard error is empty when it begins. */
+/* Loaded before a program: holds it where its own code begins, and runs a copy of it for each trial
+ * that is asked for. A trial refuses the copy some of its allocations, or has a read or a write of
+ * it be short or fail.
+ *
+ * TRIAL_DESCRIPTORS has five numbers with spaces between: of a pipe from which struct trial is
+ * read, of one to which struct answer is written for each, and of the files of a copy's standard
+ * input, output and error. Of the first two `read` and `write` move the bytes in memory, without a
+ * call of the system for each: a copy that moves single bytes makes thousands. What it reads or
+ * writes by other calls it does to the files. It begins at the start of the first two, writes over
+ * what another copy wrote, and the file of its standard error is empty when it begins. */
 
 #define _GNU_SOURCE
 #include <dlfcn.h>
@@ -19,8 +21,8 @@
 #include <sys/wait.h>
 #include <unistd.h>
 
-/* Allocations, reads, and writes to standard output are counted from 1 on. Where one is named by its number, 0
-   names none, and a greatest number of bytes of 0 is no limit. */
+/* Allocations, reads, and writes to standard output are counted from 1 on. The number 0 names none
+   of them, and a greatest number of bytes of 0 is no limit. */
 struct trial {
     long refused_from;
     long refused_to;
@@ -119,7 +121,8 @@ static void serve(int requests, int answers, const int *files)
         long behind = moved(files[1], SEEK_CUR);
         if (counts->written < behind)
             counts->written = behind;
-        struct answer answer = {status, *counts, microseconds(usage.ru_utime) + microseconds(usage.ru_stime)};
+        struct answer answer = {status, *counts,
+                                microseconds(usage.ru_utime) + microseconds(usage.ru_stime)};
         if (syscall(SYS_write, answers, &answer, sizeof answer) != sizeof answer)
             stop("write");
     }
@@ -138,7 +141,8 @@ __attribute__((constructor)) static void hold(void)
 {
     const char *descriptors = getenv("TRIAL_DESCRIPTORS");
     int requests, answers, files[3];
-    if (!descriptors || sscanf(descriptors, "%d %d %d %d %d", &requests, &answers, &files[0], &files[1], &files[2]) != 5)
+    if (!descriptors || sscanf(descriptors, "%d %d %d %d %d", &requests, &answers, &files[0],
+                               &files[1], &files[2]) != 5)
         return;
     struct counts *shared = mapped(sizeof *counts, PROT_READ | PROT_WRITE, MAP_ANONYMOUS, -1);
     input = mapped(MAX_INPUT, PROT_READ, 0, files[0]);

@@ -12,37 +12,67 @@ pub struct Logger {
 }
 
 fn ranges(numbers: &[(u64, u64)]) -> String {
-    let all: Vec<String> = numbers.iter().map(|it| format!("[{},{}]", it.0, it.1)).collect();
+    let all: Vec<String> = numbers
+        .iter()
+        .map(|it| format!("[{},{}]", it.0, it.1))
+        .collect();
     all.join(",")
 }
 
 impl Logger {
     pub fn new(role: &'static str, max_datagram_size: u64) -> Self {
-        Self { role, max_datagram_size, max_ack_delay: 25_000, lines: String::new() }
+        Self {
+            role,
+            max_datagram_size,
+            max_ack_delay: 25_000,
+            lines: String::new(),
+        }
     }
     fn event(&mut self, event: &str, time: u64, keys: String) {
         let _ = writeln!(self.lines, r#"{{"event":"{event}","time":{time}{keys}}}"#);
     }
     /// OnPacketSent (A.5). `leave` is `window`, or `probe` after a probe timeout.
     #[allow(clippy::too_many_arguments)]
-    pub fn sent(&mut self, time: u64, space: &str, number: u64, size: u64, eliciting: bool, in_flight: bool, leave: &str) {
+    pub fn sent(
+        &mut self,
+        time: u64,
+        space: &str,
+        number: u64,
+        size: u64,
+        eliciting: bool,
+        in_flight: bool,
+        leave: &str,
+    ) {
         let what = format!(r#","space":"{space}","number":{number},"size":{size}"#);
-        let marks = format!(r#","eliciting":{eliciting},"in_flight":{in_flight},"leave":"{leave}""#);
+        let marks =
+            format!(r#","eliciting":{eliciting},"in_flight":{in_flight},"leave":"{leave}""#);
         self.event("sent", time, what + &marks);
     }
     /// OnAckReceived (A.7), before anything is done about it.
     pub fn ack(&mut self, time: u64, space: &str, acked: &[(u64, u64)], delay: u64, limited: bool) {
         let named = ranges(acked);
-        self.event("ack", time, format!(r#","space":"{space}","ranges":[{named}],"delay":{delay},"limited":{limited}"#));
+        self.event(
+            "ack",
+            time,
+            format!(r#","space":"{space}","ranges":[{named}],"delay":{delay},"limited":{limited}"#),
+        );
     }
     /// OnPacketsLost (B.8), right behind the `ack` or the `timer` that showed the loss.
     pub fn lost(&mut self, time: u64, space: &str, lost: &[u64]) {
         let each: Vec<(u64, u64)> = lost.iter().map(|it| (*it, *it)).collect();
-        self.event("lost", time, format!(r#","space":"{space}","ranges":[{}]"#, ranges(&each)));
+        self.event(
+            "lost",
+            time,
+            format!(r#","space":"{space}","ranges":[{}]"#, ranges(&each)),
+        );
     }
     /// OnLossDetectionTimeout (A.9): kind `loss` or `pto`.
     pub fn timer(&mut self, time: u64, kind: &str, space: &str) {
-        self.event("timer", time, format!(r#","kind":"{kind}","space":"{space}""#));
+        self.event(
+            "timer",
+            time,
+            format!(r#","kind":"{kind}","space":"{space}""#),
+        );
     }
     /// OnPacketNumberSpaceDiscarded (A.11): `initial` or `handshake`.
     pub fn discard(&mut self, time: u64, space: &str) {
@@ -54,13 +84,19 @@ impl Logger {
     }
     /// Your own values by the names of the format, such as `window`, which are compared.
     pub fn metrics(&mut self, time: u64, values: &[(&str, u64)]) {
-        let all: Vec<String> = values.iter().map(|it| format!(r#","{}":{}"#, it.0, it.1)).collect();
+        let all: Vec<String> = values
+            .iter()
+            .map(|it| format!(r#","{}":{}"#, it.0, it.1))
+            .collect();
         self.event("metrics", time, all.concat());
     }
     /// The trace, at the end of the connection.
     pub fn trace(&self) -> String {
-        format!(r#"{{"event":"header","version":1,"role":"{}","max_datagram_size":{},"max_ack_delay":{}}}"#,
-            self.role, self.max_datagram_size, self.max_ack_delay) + "\n" + &self.lines
+        format!(
+            r#"{{"event":"header","version":1,"role":"{}","max_datagram_size":{},"max_ack_delay":{}}}"#,
+            self.role, self.max_datagram_size, self.max_ack_delay
+        ) + "\n"
+            + &self.lines
     }
 }
 
@@ -71,6 +107,13 @@ fn main() {
     }
     logger.ack(100_000, "app", &[(3, 3)], 0, false);
     logger.lost(100_000, "app", &[0]);
-    logger.metrics(100_000, &[("window", 6000), ("bytes_in_flight", 2400), ("latest_rtt", 99_700)]);
+    logger.metrics(
+        100_000,
+        &[
+            ("window", 6000),
+            ("bytes_in_flight", 2400),
+            ("latest_rtt", 99_700),
+        ],
+    );
     print!("{}", logger.trace());
 }

@@ -2,9 +2,10 @@
  *
  *     events ROUNDS FILE     hands the events of the file in, so many times
  *
- * The file has a command for each line of a trace, as conformance/structs.py writes them, the header first.
- * They are read into structs before anything is measured. In each round the library is opened, is handed all of them, has to accept them, and
- * is closed. The processor time of a round is written in nanoseconds, the least of all rounds.
+ * The file has a command for each line of a trace, as conformance/structs.py writes them, the
+ * header first. They are read into structs before anything is measured. In each round the library
+ * is opened, is handed all of them, has to accept them, and is closed. The processor time of a
+ * round is written in nanoseconds, the least of all rounds.
  *
  * The exit status is 0, 1 where a verdict was not as wanted, and 2 where the input was none.
  */
@@ -95,7 +96,8 @@ static int run(const qaudit_trace_header *header, const event *events, size_t co
     if (status == QAUDIT_OPEN) status = qaudit_header(&q, header);
     for (i = 0; i < count && status == QAUDIT_OPEN; i++) status = hand(&q, &events[i]);
     if (status == QAUDIT_OPEN) status = qaudit_finish(&q);
-    if (status != QAUDIT_FINISHED || !qaudit_verdict(&q, &told) || told.kind != QAUDIT_ACCEPTED || told.totals.events != count) {
+    if (status != QAUDIT_FINISHED || !qaudit_verdict(&q, &told) || told.kind != QAUDIT_ACCEPTED ||
+        told.totals.events != count) {
         fprintf(stderr, "it is not accepted: status %" PRIu32 "\n", status);
         return 1;
     }
@@ -114,7 +116,9 @@ static char *text_of(const char *name) {
     FILE *file = fopen(name, "rb");
     long bytes;
     char *text;
-    if (!file || fseek(file, 0, SEEK_END) != 0 || (bytes = ftell(file)) < 0 || fseek(file, 0, SEEK_SET) != 0) exit(2);
+    if (!file || fseek(file, 0, SEEK_END) != 0 || (bytes = ftell(file)) < 0 ||
+        fseek(file, 0, SEEK_SET) != 0)
+        exit(2);
     text = (char *)room_for((size_t)bytes + 1);
     if (fread(text, 1, (size_t)bytes, file) != (size_t)bytes) exit(2);
     text[bytes] = 0;

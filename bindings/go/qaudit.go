@@ -1,7 +1,7 @@
 // Package qaudit is an auditor of QUIC loss recovery (RFC 9002), fed while a sender runs.
 //
-// The library, libqaudit.a, is built by `make lib` at the top of the repository, into bin/; a release has it in lib/.
-// If it is elsewhere, CGO_LDFLAGS=-L names its folder.
+// The library, libqaudit.a, is built by `make lib` at the top of the repository, into bin/; a
+// release has it in lib/. If it is elsewhere, CGO_LDFLAGS=-L names its folder.
 package qaudit
 
 /*
@@ -60,7 +60,8 @@ const (
 // Progress says how far an audit is.
 type Progress uint32
 
-// How far an audit is: what follows can change the verdict, it is known whatever follows, or nothing follows.
+// How far an audit is: what follows can change the verdict, it is known whatever follows, or
+// nothing follows.
 const (
 	Open Progress = iota
 	Fixed
@@ -76,7 +77,8 @@ var (
 	ErrInsideLine = errors.New("qaudit: the bytes that were fed end inside a line")
 )
 
-// A Header says what holds of the whole connection. A value of nil is the default of the trace format.
+// A Header says what holds of the whole connection. A value of nil is the default of the trace
+// format.
 type Header struct {
 	Role                Role
 	Nanoseconds         bool // the unit of times; else microseconds
@@ -89,7 +91,7 @@ type Header struct {
 	ReportSlackUs       uint64
 	ReportSlackBytes    uint64
 	PacketThreshold     *uint64
-	ReportedWindow      bool // packets are judged by the window that the sender reports; else by NewReno's
+	ReportedWindow      bool // packets are judged by the reported window; else by NewReno's
 	MayBeLost           bool // packets that lie behind may be lost, and need not
 	RefreshMinRTT       bool
 	WindowOvershoot     bool
@@ -97,7 +99,7 @@ type Header struct {
 	CountsPackets       bool // the packet threshold counts packets, and not their numbers
 	ResetRTT            bool // persistent congestion resets the estimate of the RTT
 	LatestRTTLessDelay  bool // the latest RTT is a sample less the peer's delay
-	RecoveryByOrder     bool // the order of the lines, and not their times, says what was sent in recovery
+	RecoveryByOrder     bool // what was sent in recovery goes by lines, not times
 
 	// kTimeThreshold in eighths of the RTT, 9 to 32; else 9.
 	TimeThresholdEighths *uint64
@@ -129,8 +131,8 @@ const (
 	Unreadable
 )
 
-// A Verdict says what is said of what was handed in: where it is not accepted, the line, and the number and name of
-// the rule or the fault, with the key or the reported value that it is about.
+// A Verdict says what is said of what was handed in: where it is not accepted, the line, and the
+// number and name of the rule or the fault, with the key or the reported value that it is about.
 type Verdict struct {
 	Kind          Kind
 	Line          uint64
@@ -139,17 +141,17 @@ type Verdict struct {
 	Events        uint64
 }
 
-// An Auditor is an audit that is handed bytes and events. Goroutines may share it: a call waits for another. It is
-// not copied.
+// An Auditor is an audit that is handed bytes and events. Goroutines may share it: a call waits for
+// another. It is not copied.
 type Auditor struct {
 	// The library has one call at a time.
 	lock sync.Mutex
 	q    C.qaudit
 }
 
-// An Allowance is what the header of an accepted trace allowed past a rule: its number and name, at V16 the reported
-// value, and the key that allows it; how many events went past the rule, on which lines, and how far at most; and how far
-// the header allows it, nil where it sets no limit.
+// An Allowance is what the header of an accepted trace allowed past a rule: its number and name, at
+// V16 the reported value, and the key that allows it; how many events went past the rule, on which
+// lines, and how far at most; and how far the header allows it, nil where it sets no limit.
 type Allowance struct {
 	Rule                         uint32
 	Name, Subject, Key           string
@@ -162,8 +164,8 @@ func New(header *Header) (*Auditor, error) {
 	return opened(header, func(q *C.qaudit) C.qaudit_status_t { return C.qaudit_open(q) })
 }
 
-// NewRecorded opens an audit as New does, which keeps the text of what it is handed, for Why, Around and Allowed: about
-// 100 to 150 bytes per event.
+// NewRecorded opens an audit as New does, which keeps the text of what it is handed, for Why,
+// Around and Allowed: about 100 to 150 bytes per event.
 func NewRecorded(header *Header) (*Auditor, error) {
 	return opened(header, func(q *C.qaudit) C.qaudit_status_t { return C.qaudit_open_recorded(q) })
 }
@@ -289,7 +291,8 @@ func (a *Auditor) Sent(packet *Packet) (Progress, error) {
 	return a.take(func() C.qaudit_status_t { return C.qaudit_sent(&a.q, &p) })
 }
 
-// ranged gives C the ranges; one that is not counted stands behind them, so that there is a pointer.
+// ranged gives C the ranges; one that is not counted stands behind them, so that there is a
+// pointer.
 func ranged(ranges []Range) []C.qaudit_range {
 	all := make([]C.qaudit_range, len(ranges)+1)
 	for i, r := range ranges {
@@ -298,8 +301,11 @@ func ranged(ranges []Range) []C.qaudit_range {
 	return all
 }
 
-// Ack takes an acknowledgment that came, of ranges in any order, with the delay as the sender used it.
-func (a *Auditor) Ack(time uint64, space Space, ranges []Range, delay uint64, appLimited bool) (Progress, error) {
+// Ack takes an acknowledgment that came, of ranges in any order, with the delay as the sender used
+// it.
+func (a *Auditor) Ack(
+	time uint64, space Space, ranges []Range, delay uint64, appLimited bool,
+) (Progress, error) {
 	ack := C.qaudit_acknowledgment{
 		time:        C.uint64_t(time),
 		delay:       C.uint64_t(delay),
@@ -307,7 +313,9 @@ func (a *Auditor) Ack(time uint64, space Space, ranges []Range, delay uint64, ap
 		app_limited: C.bool(appLimited),
 	}
 	all := ranged(ranges)
-	return a.take(func() C.qaudit_status_t { return C.qaudit_ack(&a.q, &ack, &all[0], C.size_t(len(ranges))) })
+	return a.take(func() C.qaudit_status_t {
+		return C.qaudit_ack(&a.q, &ack, &all[0], C.size_t(len(ranges)))
+	})
 }
 
 // Lost takes packets that the sender declared lost.
@@ -320,13 +328,19 @@ func (a *Auditor) Lost(time uint64, space Space, ranges []Range) (Progress, erro
 
 // Timer takes a timer that fired.
 func (a *Auditor) Timer(time uint64, kind TimerKind, space Space) (Progress, error) {
-	timer := C.qaudit_fired_timer{time: C.uint64_t(time), kind: C.uint32_t(kind), space: C.uint32_t(space)}
+	timer := C.qaudit_fired_timer{
+		time:  C.uint64_t(time),
+		kind:  C.uint32_t(kind),
+		space: C.uint32_t(space),
+	}
 	return a.take(func() C.qaudit_status_t { return C.qaudit_timer(&a.q, &timer) })
 }
 
 // Discard takes that the keys of a space were discarded.
 func (a *Auditor) Discard(time uint64, space Space) (Progress, error) {
-	return a.take(func() C.qaudit_status_t { return C.qaudit_discard(&a.q, C.uint64_t(time), C.uint32_t(space)) })
+	return a.take(func() C.qaudit_status_t {
+		return C.qaudit_discard(&a.q, C.uint64_t(time), C.uint32_t(space))
+	})
 }
 
 // Confirmed takes that the handshake was confirmed.
@@ -373,14 +387,25 @@ func (a *Auditor) Verdict() (Verdict, bool) {
 	if !known {
 		return Verdict{}, false
 	}
-	verdict := Verdict{Kind: Kind(out.kind), Line: uint64(out.line), Code: uint32(out.code), Events: uint64(out.totals.events)}
+	verdict := Verdict{
+		Kind:   Kind(out.kind),
+		Line:   uint64(out.line),
+		Code:   uint32(out.code),
+		Events: uint64(out.totals.events),
+	}
 	switch verdict.Kind {
 	case Refused:
-		verdict.Name = text(func(at *C.uint8_t, room C.size_t) C.size_t { return C.qaudit_rule_name(out.code, at, room) })
+		verdict.Name = text(func(at *C.uint8_t, room C.size_t) C.size_t {
+			return C.qaudit_rule_name(out.code, at, room)
+		})
 	case Unreadable:
-		verdict.Name = text(func(at *C.uint8_t, room C.size_t) C.size_t { return C.qaudit_fault_name(out.code, at, room) })
+		verdict.Name = text(func(at *C.uint8_t, room C.size_t) C.size_t {
+			return C.qaudit_fault_name(out.code, at, room)
+		})
 	}
-	verdict.Subject = text(func(at *C.uint8_t, room C.size_t) C.size_t { return C.qaudit_key_name(out.subject, at, room) })
+	verdict.Subject = text(func(at *C.uint8_t, room C.size_t) C.size_t {
+		return C.qaudit_key_name(out.subject, at, room)
+	})
 	return verdict, true
 }
 
@@ -395,7 +420,9 @@ func (a *Auditor) Report() string {
 func (a *Auditor) FirstLine() string {
 	a.lock.Lock()
 	defer a.lock.Unlock()
-	return strings.TrimSpace(text(func(at *C.uint8_t, room C.size_t) C.size_t { return C.qaudit_first_line(&a.q, at, room) }))
+	return strings.TrimSpace(text(func(at *C.uint8_t, room C.size_t) C.size_t {
+		return C.qaudit_first_line(&a.q, at, room)
+	}))
 }
 
 // Why returns why it is refused, as `qaudit-why` writes it; nothing if it was not recorded.
@@ -409,10 +436,13 @@ func (a *Auditor) Why() string {
 func (a *Auditor) Around(rows uint16) string {
 	a.lock.Lock()
 	defer a.lock.Unlock()
-	return text(func(at *C.uint8_t, room C.size_t) C.size_t { return C.qaudit_around(&a.q, C.uint16_t(rows), at, room) })
+	return text(func(at *C.uint8_t, room C.size_t) C.size_t {
+		return C.qaudit_around(&a.q, C.uint16_t(rows), at, room)
+	})
 }
 
-// Allowed returns what the header allowed, if what was recorded is accepted; nothing if it allowed nothing.
+// Allowed returns what the header allowed, if what was recorded is accepted; nothing if it allowed
+// nothing.
 func (a *Auditor) Allowed() []Allowance {
 	var all [14]C.qaudit_allowance
 	a.lock.Lock()
@@ -427,11 +457,16 @@ func (a *Auditor) Allowed() []Allowance {
 
 func allowance(it C.qaudit_allowance) Allowance {
 	key := func(number C.uint32_t) string {
-		return text(func(at *C.uint8_t, room C.size_t) C.size_t { return C.qaudit_key_name(number, at, room) })
+		return text(func(at *C.uint8_t, room C.size_t) C.size_t {
+			return C.qaudit_key_name(number, at, room)
+		})
 	}
+	name := text(func(at *C.uint8_t, room C.size_t) C.size_t {
+		return C.qaudit_rule_name(it.rule, at, room)
+	})
 	allowed := Allowance{
 		Rule:     uint32(it.rule),
-		Name:     text(func(at *C.uint8_t, room C.size_t) C.size_t { return C.qaudit_rule_name(it.rule, at, room) }),
+		Name:     name,
 		Subject:  key(it.subject),
 		Key:      key(it.key),
 		Count:    uint64(it.count),

@@ -56,7 +56,9 @@ func TestEachReasonIsThatOfTheCorpus(t *testing.T) {
 			t.Fatal(err)
 		}
 		a.Feed(bytes)
-		if _, err := a.Finish(); err != nil || a.Why() != wanted || a.Around(0) != wanted || !strings.HasPrefix(a.Around(3), wanted) {
+		_, err = a.Finish()
+		isWanted := a.Why() == wanted && a.Around(0) == wanted
+		if err != nil || !isWanted || !strings.HasPrefix(a.Around(3), wanted) {
 			t.Errorf("%s: %q", trace, a.Why())
 		}
 		a.Close()
@@ -70,7 +72,8 @@ func TestAnEventIsItsLine(t *testing.T) {
 	}
 	a.Timer(5, ProbeTimer, App)
 	lines := strings.Split(a.Why(), "\n")
-	if !strings.HasPrefix(lines[0], "-:2: refused V11 timer-not-set") || lines[1] != `  2 | {"event":"timer","kind":"pto","space":"app","time":5}` {
+	timer := `  2 | {"event":"timer","kind":"pto","space":"app","time":5}`
+	if !strings.HasPrefix(lines[0], "-:2: refused V11 timer-not-set") || lines[1] != timer {
 		t.Errorf("%q", lines)
 	}
 }
@@ -105,7 +108,9 @@ func TestAFullWindow(t *testing.T) {
 		t.Fatal(err)
 	}
 	for number := uint64(0); number < 11; number++ {
-		packet := Packet{Time: number, Number: number, Size: 1200, Space: App, Eliciting: true, InFlight: true}
+		packet := Packet{
+			Time: number, Number: number, Size: 1200, Space: App, Eliciting: true, InFlight: true,
+		}
 		if _, err := a.Sent(&packet); err != nil {
 			t.Fatal(err)
 		}

@@ -6,8 +6,9 @@ import (
 	"testing"
 )
 
-// An example: an auditor hooked into a small sender, and a test that fails at the first departure. The sender knows
-// its window and nothing else of loss recovery. It tells its hook what it does, in the lines where a real one would.
+// An example: an auditor hooked into a small sender, and a test that fails at the first departure.
+// The sender knows its window and nothing else of loss recovery. It tells its hook what it does, in
+// the lines where a real one would.
 
 const (
 	size   = 1200
@@ -25,7 +26,9 @@ func (h hook) check(progress Progress, err error) error {
 }
 
 func (h hook) onPacketSent(time, number uint64) error {
-	packet := Packet{Time: time, Number: number, Size: size, Space: App, Eliciting: true, InFlight: true}
+	packet := Packet{
+		Time: time, Number: number, Size: size, Space: App, Eliciting: true, InFlight: true,
+	}
 	return h.check(h.auditor.Sent(&packet))
 }
 

@@ -244,9 +244,19 @@ pub struct Cause {
 #[derive(Clone, Debug, PartialEq, Eq)]
 #[allow(missing_docs)]
 pub enum Verdict {
-    Accepted { totals: Totals },
-    Refused { line: u64, rule: Cause, totals: Totals },
-    Unreadable { line: u64, fault: Cause, totals: Option<Totals> },
+    Accepted {
+        totals: Totals,
+    },
+    Refused {
+        line: u64,
+        rule: Cause,
+        totals: Totals,
+    },
+    Unreadable {
+        line: u64,
+        fault: Cause,
+        totals: Option<Totals>,
+    },
 }
 
 /// What the header of an accepted trace allowed past a rule.
@@ -306,8 +316,9 @@ impl Auditor {
         opened(raw::qaudit_open)
     }
 
-    /// An audit of what has this header, which keeps the text of what it is handed, for [`why`](Auditor::why),
-    /// [`around`](Auditor::around) and [`allowed`](Auditor::allowed): about 100 to 150 bytes per event.
+    /// An audit of what has this header, which keeps the text of what it is handed, for
+    /// [`why`](Auditor::why), [`around`](Auditor::around) and [`allowed`](Auditor::allowed): about
+    /// 100 to 150 bytes per event.
     pub fn recorded(header: &Header) -> Result<Auditor, Error> {
         let mut auditor = Auditor::recorded_without_header()?;
         auditor.header(header)?;
@@ -372,8 +383,8 @@ impl Auditor {
         told(unsafe { raw::qaudit_sent(&mut self.0, &raw) })
     }
 
-    /// Takes an acknowledgment that came: the ranges of packet numbers, in any order, and the delay as the
-    /// sender used it.
+    /// Takes an acknowledgment that came: the ranges of packet numbers, in any order, and the delay
+    /// as the sender used it.
     pub fn ack(
         &mut self,
         time: u64,
@@ -393,9 +404,22 @@ impl Auditor {
     }
 
     /// Takes packets that the sender declared lost.
-    pub fn lost(&mut self, time: u64, space: Space, ranges: &[RangeInclusive<u64>]) -> Result<Progress, Error> {
+    pub fn lost(
+        &mut self,
+        time: u64,
+        space: Space,
+        ranges: &[RangeInclusive<u64>],
+    ) -> Result<Progress, Error> {
         let ranges = raw_ranges(ranges);
-        told(unsafe { raw::qaudit_lost(&mut self.0, time, space as u32, ranges.as_ptr(), ranges.len()) })
+        told(unsafe {
+            raw::qaudit_lost(
+                &mut self.0,
+                time,
+                space as u32,
+                ranges.as_ptr(),
+                ranges.len(),
+            )
+        })
     }
 
     /// Takes a timer that fired.

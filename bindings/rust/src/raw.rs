@@ -125,8 +125,19 @@ extern "C" {
     pub fn qaudit_feed(q: *mut Qaudit, bytes: *const u8, count: usize) -> u32;
     pub fn qaudit_header(q: *mut Qaudit, header: *const Header) -> u32;
     pub fn qaudit_sent(q: *mut Qaudit, packet: *const Packet) -> u32;
-    pub fn qaudit_ack(q: *mut Qaudit, ack: *const Acknowledgment, ranges: *const Range, count: usize) -> u32;
-    pub fn qaudit_lost(q: *mut Qaudit, time: u64, space: u32, ranges: *const Range, count: usize) -> u32;
+    pub fn qaudit_ack(
+        q: *mut Qaudit,
+        ack: *const Acknowledgment,
+        ranges: *const Range,
+        count: usize,
+    ) -> u32;
+    pub fn qaudit_lost(
+        q: *mut Qaudit,
+        time: u64,
+        space: u32,
+        ranges: *const Range,
+        count: usize,
+    ) -> u32;
     pub fn qaudit_timer(q: *mut Qaudit, timer: *const Timer) -> u32;
     pub fn qaudit_discard(q: *mut Qaudit, time: u64, space: u32) -> u32;
     pub fn qaudit_confirmed(q: *mut Qaudit, time: u64) -> u32;

@@ -1,12 +1,19 @@
 //! The traces of the conformance corpus: each report is that of the program.
-use qaudit::{Allowance, Auditor, Cause, Error, Header, Metrics, Packet, Progress, Role, Space, TimerKind, Verdict};
+use qaudit::{
+    Allowance, Auditor, Cause, Error, Header, Metrics, Packet, Progress, Role, Space, TimerKind,
+    Verdict,
+};
 use std::fs;
 use std::path::PathBuf;
 
 fn traces() -> Vec<PathBuf> {
     let folder = PathBuf::from(env!("CARGO_MANIFEST_DIR")).join("../../conformance/traces");
-    let files = fs::read_dir(folder).unwrap().map(|file| file.unwrap().path());
-    files.filter(|path| path.extension().is_some_and(|end| end == "trace")).collect()
+    let files = fs::read_dir(folder)
+        .unwrap()
+        .map(|file| file.unwrap().path());
+    files
+        .filter(|path| path.extension().is_some_and(|end| end == "trace"))
+        .collect()
 }
 
 #[test]
@@ -51,10 +58,15 @@ fn each_reason_is_that_of_the_corpus() {
 fn an_event_is_its_line() {
     let mut auditor = Auditor::recorded(&Header::new(Role::Server, 1200)).unwrap();
     for number in 0..11 {
-        auditor.sent(&Packet::new(number, Space::App, number, 1200)).unwrap();
+        auditor
+            .sent(&Packet::new(number, Space::App, number, 1200))
+            .unwrap();
     }
     let why = auditor.why();
-    assert!(why.starts_with("-:12: refused V7 past-window: packet 10 of app"), "{why}");
+    assert!(
+        why.starts_with("-:12: refused V7 past-window: packet 10 of app"),
+        "{why}"
+    );
     let line = r#"  12 | {"eliciting":true,"event":"sent","in_flight":true,"leave":"window","number":10,"size":1200,"space":"app","time":10}"#;
     assert_eq!(why.lines().nth(1), Some(line));
     assert_eq!(auditor.around(2).matches("\n  line ").count(), 2);
@@ -88,14 +100,21 @@ fn what_was_allowed_is_told() {
     };
     assert_eq!(auditor.allowed(), [wanted]);
     let mut other = Auditor::new(&header).unwrap();
-    assert_eq!((other.why(), other.around(3), other.allowed()), (String::new(), String::new(), vec![]));
+    assert_eq!(
+        (other.why(), other.around(3), other.allowed()),
+        (String::new(), String::new(), vec![])
+    );
 }
 
 #[test]
 fn events_of_each_kind_are_taken() {
     let mut auditor = Auditor::new(&Header::new(Role::Client, 1200)).unwrap();
-    auditor.sent(&Packet::new(0, Space::Initial, 0, 1200)).unwrap();
-    auditor.ack(100_000, Space::Initial, &[0..=0], 0, false).unwrap();
+    auditor
+        .sent(&Packet::new(0, Space::Initial, 0, 1200))
+        .unwrap();
+    auditor
+        .ack(100_000, Space::Initial, &[0..=0], 0, false)
+        .unwrap();
     auditor.keys(100_000).unwrap();
     auditor.discard(100_001, Space::Initial).unwrap();
     auditor.confirmed(100_002).unwrap();
@@ -111,9 +130,14 @@ fn events_of_each_kind_are_taken() {
 #[test]
 fn the_first_departure_is_told() {
     let mut auditor = Auditor::new(&Header::new(Role::Server, 1200)).unwrap();
-    assert_eq!(auditor.timer(0, TimerKind::Pto, Space::App), Ok(Progress::Fixed));
+    assert_eq!(
+        auditor.timer(0, TimerKind::Pto, Space::App),
+        Ok(Progress::Fixed)
+    );
     match auditor.verdict() {
-        Some(Verdict::Refused { line: 2, rule, .. }) => assert_eq!((rule.number, rule.name.as_str()), (11, "timer-not-set")),
+        Some(Verdict::Refused { line: 2, rule, .. }) => {
+            assert_eq!((rule.number, rule.name.as_str()), (11, "timer-not-set"))
+        }
         other => panic!("{other:?}"),
     }
 }
@@ -148,7 +172,11 @@ fn threads_that_share_an_auditor_take_a_lock() {
         for _ in 0..4 {
             scope.spawn(|| {
                 for _ in 0..1000 {
-                    auditor.lock().unwrap().metrics(0, &Metrics::default()).unwrap();
+                    auditor
+                        .lock()
+                        .unwrap()
+                        .metrics(0, &Metrics::default())
+                        .unwrap();
                 }
             });
         }

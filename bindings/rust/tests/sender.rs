@@ -1,7 +1,7 @@
 //! An example: an auditor hooked into a small sender, and a test that fails at the first departure.
 //!
-//! The sender knows its window and nothing else of loss recovery. It tells its hook what it does, in
-//! the lines where a real one would.
+//! The sender knows its window and nothing else of loss recovery. It tells its hook what it does,
+//! in the lines where a real one would.
 use qaudit::{Auditor, Error, Header, Packet, Progress, Role, Space};
 
 const SIZE: u64 = 1200;
@@ -14,7 +14,8 @@ struct Hook {
 
 impl Hook {
     fn new() -> Hook {
-        let auditor = Auditor::new(&Header::new(Role::Server, SIZE)).expect("memory for an auditor");
+        let auditor =
+            Auditor::new(&Header::new(Role::Server, SIZE)).expect("memory for an auditor");
         Hook { auditor }
     }
 
@@ -25,12 +26,16 @@ impl Hook {
     }
 
     fn on_packet_sent(&mut self, time: u64, number: u64) {
-        let progress = self.auditor.sent(&Packet::new(time, Space::App, number, SIZE));
+        let progress = self
+            .auditor
+            .sent(&Packet::new(time, Space::App, number, SIZE));
         self.check(progress);
     }
 
     fn on_ack_received(&mut self, time: u64, first: u64, last: u64) {
-        let progress = self.auditor.ack(time, Space::App, &[first..=last], 0, false);
+        let progress = self
+            .auditor
+            .ack(time, Space::App, &[first..=last], 0, false);
         self.check(progress);
     }
 }
@@ -64,7 +69,8 @@ impl Sender {
 
     fn receive(&mut self, time: u64) {
         self.time = time;
-        self.hook.on_ack_received(time, self.first_in_flight, self.number - 1);
+        self.hook
+            .on_ack_received(time, self.first_in_flight, self.number - 1);
         self.first_in_flight = self.number;
     }
 }

@@ -9,8 +9,8 @@ import (
 	"qaudit"
 )
 
-// audit is an audit inside a test, which fails at the first violation of RFC 9002 with the reason, and the trace of what
-// was judged.
+// audit is an audit inside a test, which fails at the first violation of RFC 9002 with the reason,
+// and the trace of what was judged.
 type audit struct {
 	*testing.T
 	auditor *qaudit.Auditor

@@ -1,5 +1,5 @@
-// An audit inside a gtest, in C++17. A test fails at the first violation of RFC 9002, with the reason,
-// and the trace of what the sender did is in a file.
+// An audit inside a gtest, in C++17. A test fails at the first violation of RFC 9002, with the
+// reason, and the trace of what the sender did is in a file.
 #ifndef AUDIT_H
 #define AUDIT_H
 
@@ -32,7 +32,8 @@ public:
     void line(const std::string &text) {
         const std::string whole = text + '\n';
         trace_ << whole << std::flush;
-        check(qaudit_feed(&q_, reinterpret_cast<const uint8_t *>(whole.data()), whole.size()) == QAUDIT_OPEN);
+        check(qaudit_feed(&q_, reinterpret_cast<const uint8_t *>(whole.data()), whole.size()) ==
+              QAUDIT_OPEN);
     }
 
 private:

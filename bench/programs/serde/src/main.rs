@@ -1,5 +1,5 @@
-//! Reads a trace by `serde_json` and looks at the kinds of its values: what the reading alone costs a program that is
-//! written in Rust. It judges no range and no rule.
+//! Reads a trace by `serde_json` and looks at the kinds of its values: what the reading alone costs
+//! a program that is written in Rust. It judges no range and no rule.
 
 use std::env;
 use std::error::Error;
@@ -106,7 +106,8 @@ fn are_ranges(value: &Value) -> bool {
 }
 
 fn is_range(value: &Value) -> bool {
-    matches!(value.as_array().map(Vec::as_slice), Some([first, last]) if first.is_u64() && last.is_u64())
+    let ends = value.as_array().map(Vec::as_slice);
+    matches!(ends, Some([first, last]) if first.is_u64() && last.is_u64())
 }
 
 /// Whether the values of a line are of the kinds that its event asks for.
