@@ -193,37 +193,41 @@ static long asked_by_losses(sender *s, size_t count) {
     return qaudit_lost(&s->q, 0, QAUDIT_APP, s->ranges, count) == QAUDIT_OPEN ? calls - before : -1;
 }
 
+/* A call: how often it asks for memory with so many packets or ranges, and its name in messages. */
+typedef struct taker {
+    long (*asked)(sender *, size_t);
+    size_t count;
+    const char *what;
+} taker;
+
 /* A call that asks for memory once leaves it to those behind it. */
-static int is_kept(sender *s, long (*asked)(sender *, size_t), size_t count, const char *what) {
+static bool is_kept(sender *s, const taker *it) {
     int i;
-    if (asked(s, count) < 0) return fail(what);
+    if (it->asked(s, it->count) < 0) return false;
     for (i = 0; i < 10; i++)
-        if (asked(s, count) != 0) return fail(what);
-    return 0;
+        if (it->asked(s, it->count) != 0) return false;
+    return true;
 }
 
 /* Each of these acknowledgments and Lost lines, and that the memory of very many ranges is not
  * kept. */
 static int is_all_kept(sender *s) {
+    static const taker takers[] = {
+        {asked_by_packets, 1, "an acknowledgment"},
+        {asked_by_packets, 33, "an acknowledgment of 33 packets"},
+        {asked_by_packets, 1000, "an acknowledgment of a thousand packets"},
+        {asked_by_ranges, 33, "an acknowledgment of 33 ranges"},
+        {asked_by_losses, 33, "a Lost line of 33 ranges"},
+        {asked_by_ranges, 1024, "an acknowledgment of 1,024 ranges"},
+    };
+    size_t i;
     if (asked_by_packets(s, 1) < 1)
         return fail("the first acknowledgment asked for nothing, or was not taken");
-    if (is_kept(s, asked_by_packets, 1, "an acknowledgment asked for memory, or was not taken"))
-        return 1;
-    if (is_kept(s, asked_by_packets, 33,
-                "an acknowledgment of 33 packets asked for memory, or was not taken"))
-        return 1;
-    if (is_kept(s, asked_by_packets, 1000,
-                "an acknowledgment of a thousand packets asked for memory, or was not taken"))
-        return 1;
-    if (is_kept(s, asked_by_ranges, 33,
-                "an acknowledgment of 33 ranges asked for memory, or was not taken"))
-        return 1;
-    if (is_kept(s, asked_by_losses, 33,
-                "a Lost line of 33 ranges asked for memory, or was not taken"))
-        return 1;
-    if (is_kept(s, asked_by_ranges, 1024,
-                "an acknowledgment of 1,024 ranges asked for memory, or was not taken"))
-        return 1;
+    for (i = 0; i < sizeof takers / sizeof *takers; i++)
+        if (!is_kept(s, &takers[i])) {
+            fprintf(stderr, "%s asked for memory, or was not taken\n", takers[i].what);
+            return 1;
+        }
     if (asked_by_ranges(s, 2000) < 1)
         return fail("an acknowledgment of 2,000 ranges asked for nothing, or was not taken");
     if (asked_by_ranges(s, 1) < 1) return fail("the memory of 2,000 ranges was kept");
