@@ -20,7 +20,7 @@ use Rattle.qa_format.proofs.verdicts.Fixed.{fixed_by_length, fixed_by_line}
 use Rattle.qa_format.specs.format.Lines.{cut, ended, ended_lines, has_lf, last_line, line_limit, lines, unended, IsShortLine}
 use Rattle.qa_format.specs.format.Reading.{reading}
 use Rattle.qa_format.specs.verdicts.Verdict.{Judging, events_in, header_in, said, verdict_of, AreGood, IsFixed}
-use Rattle.qa_read.specs.Stream.{BeginsTooLong}
+use Rattle.qa_cut.specs.Stream.{BeginsTooLong}
 
 -- ---- what is handed out
 

@@ -10,7 +10,7 @@ use Rattle.qa_format.proofs.verdicts.Fixed.{fixed_stays, long_stops}
 use Rattle.qa_format.proofs.verdicts.Rows.{told_stay, told_at_stop, told_of_fixed}
 use Rattle.qa_format.proofs.verdicts.Stops.{first_stop-snoc, no_stop_or_stop, decided_stays}
 use Rattle.qa_format.specs.declared.verdict.Verdict.{Verdict}
-use Rattle.qa_read.specs.Stream.{Stream}
+use Rattle.qa_cut.specs.Stream.{Stream}
 use Rattle.qa_check.specs.declared.auditing.AuditFault.{AuditFault}
 use Rattle.qa_check.specs.declared.auditor.Progress.{Progress}
 use Rattle.qa_check.specs.declared.auditor.Progress.TheVariants.{Open, Fixed}

@@ -8,7 +8,7 @@ use Rattle.qa_format.specs.verdicts.Verdict.{Judging, first_stop, verdict_of, Ar
 use Rattle.qa_format.proofs.verdicts.Cuts.{Cut, cut_without_lf, cut_ended, first_line, first_line_is_long, short_snoc, ended_snoc, lines_at_end, lines_at_lf, lf_inside, length-ended}
 use Rattle.qa_format.proofs.verdicts.Fixed.{fixed_by_line, fixed_by_length}
 use Rattle.qa_format.proofs.verdicts.Stops.{good_are_few}
-use Rattle.qa_read.specs.Stream.{Stream, IsFirstLine, IsLastLine, BeginsTooLong}
+use Rattle.qa_cut.specs.Stream.{Stream, IsFirstLine, IsLastLine, BeginsTooLong}
 use Rattle.qa_check.specs.Following.{FollowsBy, AnswersBy}
 
 -- how a splitter took a line off its bytes

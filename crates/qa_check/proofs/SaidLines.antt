@@ -4,7 +4,7 @@ use Rattle.std.proofs.lemmas.Bool.{eqb-true}
 use Rattle.std.specs.Prelude.{◌==◌}
 use Rattle.qa_format.specs.format.Lines.{with_lf, IsShortLine}
 use Rattle.qa_format.specs.verdicts.Verdict.{IsFixed}
-use Rattle.qa_read.specs.Stream.{Stream}
+use Rattle.qa_cut.specs.Stream.{Stream}
 use Rattle.qa_check.specs.declared.auditing.AuditFault.{AuditFault}
 use Rattle.qa_check.specs.declared.auditing.AuditFault.TheVariants as faults
 use Rattle.qa_check.specs.declared.auditor.Progress.{Progress}

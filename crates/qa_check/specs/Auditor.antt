@@ -4,7 +4,7 @@ use Rattle.std.specs.Prelude.{Err}
 use Rattle.qa_format.specs.declared.verdict.Verdict.{Verdict}
 use Rattle.qa_format.specs.format.Lines.{IsShortLine}
 use Rattle.qa_format.specs.verdicts.Verdict.{verdict, IsFixed}
-use Rattle.qa_read.specs.Stream.{Stream, HasNoLine}
+use Rattle.qa_cut.specs.Stream.{Stream, HasNoLine}
 use Rattle.qa_check.specs.declared.auditing.AuditFault.{AuditFault}
 use Rattle.qa_check.specs.declared.auditing.AuditFault.TheVariants as faults
 use Rattle.qa_check.specs.declared.auditor.Progress.{Progress}

@@ -3,7 +3,7 @@ use Rattle.std.specs.Prelude.{◌≡◌, ◌++◌, ℕ, false, List, None}
 use Rattle.std.specs.List.{AllByRecursion}
 use Rattle.qa_format.specs.format.Lines.{ended, IsShortLine}
 use Rattle.qa_format.specs.verdicts.Verdict.{Judging, verdict, verdict_of, AreGood}
-use Rattle.qa_read.specs.Stream.{Stream}
+use Rattle.qa_cut.specs.Stream.{Stream}
 use Rattle.qa_check.specs.Standing.{Held, Judges, by, StandsFor}
 
 -- the lines that a checker stands for are those that an LF ends in the bytes, all good, and this

@@ -5,7 +5,7 @@ ghost use Rattle.qa_format.specs.format.Lines.{with_lf};
 ghost use Rattle.qa_format.specs.format.Reading.{reading};
 ghost use Rattle.qa_format.specs.format.Written.{line_fits};
 ghost use Rattle.qa_format.specs.verdicts.Verdict.{verdict};
-ghost use Rattle.qa_read.specs.Stream.{Stream, HasNoLine};
+ghost use Rattle.qa_cut.specs.Stream.{Stream, HasNoLine};
 ghost use Rattle.qa_check.specs.Auditor.{BringsTo, Settles, TakesMore};
 ghost use Rattle.qa_check.specs.Following.{Answers, Follows, IsReady};
 ghost use Rattle.qa_check.specs.Standing.{IsLineOf, by};
@@ -16,8 +16,8 @@ use crate::judges::Judge;
 use crate::taking::{Taken, take_last};
 use crate::visitor::Unvisited;
 use crate::walking::take_piece;
+use qa_cut::Splitter;
 use qa_format::{Line, Verdict};
-use qa_read::Splitter;
 use std::alloc::Global;
 use std::marker::Model;
 

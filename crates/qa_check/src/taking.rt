@@ -5,7 +5,7 @@ ghost use Rattle.qa_format.specs.format.Lines.{ended_lines, lines};
 ghost use Rattle.qa_format.specs.format.Reading.{reading};
 ghost use Rattle.qa_format.specs.format.Written.{line_fits};
 ghost use Rattle.qa_format.specs.verdicts.Verdict.{AreGood, IsFixed};
-ghost use Rattle.qa_read.specs.Stream.{HasNoLine};
+ghost use Rattle.qa_cut.specs.Stream.{HasNoLine};
 ghost use Rattle.qa_check.specs.Auditor.{TakesMore};
 ghost use Rattle.qa_check.specs.Following.{IsReady};
 ghost use Rattle.qa_check.specs.Standing.{StandsFor, by};
@@ -17,8 +17,9 @@ ghost use Rattle.qa_check.specs.declared.taking.LastLine.{LastLine as ALast};
 use crate::checker::{Checker, Stop};
 use crate::judges::Judge;
 use crate::visitor::Visitor;
+use qa_cut::{SplitFault, Splitter};
 use qa_format::Line;
-use qa_read::{LineFault, SplitFault, Splitter, read_line};
+use qa_read::{LineFault, read_line};
 use std::alloc::{AllocError, Global};
 
 /// The line that ended a walk, which is not good.

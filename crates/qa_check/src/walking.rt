@@ -11,7 +11,7 @@ ghost use Rattle.qa_check.specs.Following.{IsReady};
 ghost use Rattle.qa_check.specs.Standing.{by};
 ghost use Rattle.qa_check.specs.Walking.{Ends, HaltsAt, HaltsIn, HaltsWithin, IsEnd, IsEnded};
 ghost use Rattle.qa_check.specs.Walking.{Walked, Walks, WalksTo, fault_by, has_failed_read};
-ghost use Rattle.qa_read.specs.Stream.{HasNoLine};
+ghost use Rattle.qa_cut.specs.Stream.{HasNoLine};
 ghost use Rattle.qa_check.specs.declared.taking.LastLine.{LastLine as ALast};
 
 use crate::checker::Checker;
@@ -19,8 +19,8 @@ use crate::judges::Judge;
 use crate::streams::Source;
 use crate::taking::{Halt, LastLine, Taken, take_last, take_lines};
 use crate::visitor::Visitor;
+use qa_cut::Splitter;
 use qa_format::Verdict;
-use qa_read::Splitter;
 use std::alloc::Global;
 
 /// How a walk ended.

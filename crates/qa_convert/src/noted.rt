@@ -13,7 +13,7 @@ ghost use Rattle.qa_format.specs.format.Written.{line_fits, written};
 use crate::own::OwnKeys;
 use qa_fast_writer::push_event;
 use qa_format::Line;
-use qa_trace::write_line;
+use qa_write::write_line;
 use serde_json::Value;
 use std::alloc::{AllocError, Global};
 use thiserror::Error;

@@ -8,7 +8,7 @@ ghost use Rattle.qa_format.specs.format.Simple.{IsKept, is_ascii};
 ghost use Rattle.qa_format.specs.format.Written.{integer_pairs};
 
 use qa_base::Spans;
-use qa_trace::ranges_list;
+use qa_write::ranges_list;
 use serde_json::{Map, Value};
 use std::alloc::{AllocError, Global};
 

@@ -6,7 +6,7 @@ ghost use Rattle.qa_embed.specs.Recording.{Grows, GrowsIf, GrowsByLine, GrowsByL
 
 use qa_base::limits::MAX_LINE_LENGTH;
 use qa_check::Line;
-use qa_trace::write_line;
+use qa_write::write_line;
 use std::alloc::Global;
 use std::marker::Model;
 

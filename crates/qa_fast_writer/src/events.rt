@@ -18,7 +18,7 @@ use qa_base::{
 use std::alloc::AllocError;
 
 /// Appends the text of the line of an event: one JSON object without white space and without LF,
-/// as `write_line` of `qa_trace` writes it.
+/// as `write_line` of `qa_write` writes it.
 ///
 /// Asks for an event that fits (`Event::fits`): no line says another. `AllocError` comes if it is
 /// out of memory; what was appended by then is of no use.

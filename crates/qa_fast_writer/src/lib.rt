@@ -1,5 +1,5 @@
 //! The line of an event, written at once: its bytes are appended one after another, while
-//! `qa_trace` first makes a value of JSON of it. Both are proved to write the same text.
+//! `qa_write` first makes a value of JSON of it. Both are proved to write the same text.
 #![tactic(auto)]
 
 mod events;

@@ -2,10 +2,10 @@
 use Rattle.std.proofs.Common.{◌≡◌, ◌∙◌, ℕ, List, ◌∷◌, ◌++◌, true, false, Option, Some, None, Result, Ok, Err, take, drop, refl, sym, ap, arith}
 use Rattle.std.specs.Prelude.{IfSome}
 use Rattle.std.specs.Borrow.{Bor}
-use Rattle.qa_read.specs.Cuts.{Uncut, BeginsTooLong, HasNoPiece, IsPlace}
-use Rattle.qa_read.specs.declared.cut.Place.{Place}
-use Rattle.qa_read.specs.declared.cut.SplitFault.{SplitFault}
-use Rattle.qa_read.specs.declared.cut.SplitFault.TheVariants as split
+use Rattle.qa_cut.specs.Cuts.{Uncut, BeginsTooLong, HasNoPiece, IsPlace}
+use Rattle.qa_cut.specs.declared.cutter.Place.{Place}
+use Rattle.qa_cut.specs.declared.cutter.SplitFault.{SplitFault}
+use Rattle.qa_cut.specs.declared.cutter.SplitFault.TheVariants as split
 use Rattle.qa_qlog.specs.declared.texts.Found.{Found}
 use Rattle.qa_qlog.specs.declared.texts.TextFault.{TextFault}
 use Rattle.qa_qlog.specs.Texts.{text_limit, is_blank, pieces, Rest, put_text, line_after, texts_from, left}

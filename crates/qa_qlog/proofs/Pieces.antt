@@ -2,7 +2,7 @@
 use Rattle.std.proofs.Common.{◌≡◌, ◌∙◌, inl, inr, ◌+◌, ◌<◌, ◌≤◌, ◌++◌, ◌∷◌, ◌||◌, ℕ, suc, List, [], Bool, true, false, Some, length, refl, sym, ap, append_assoc, arith, eq-eqb, lt-ltb, le-ltb}
 use Rattle.std.proofs.lemmas.List.{append-nil}
 use Rattle.std.specs.Prelude.{nat_lt}
-use Rattle.qa_read.specs.Cuts.{is_mark, has_mark, Uncut, TakesPiece, BeginsTooLong}
+use Rattle.qa_cut.specs.Cuts.{is_mark, has_mark, Uncut, TakesPiece, BeginsTooLong}
 use Rattle.qa_qlog.specs.Texts.{text_limit, is_blank, put_front, pieces, put_text, line_after, texts_from}
 
 neither : (a b : Bool) → (a || b) ≡ false → (a ≡ false) × (b ≡ false)

@@ -4,9 +4,9 @@ use Rattle.std.specs.Prelude.{None}
 use Rattle.std.specs.Prelude.{Result, Err, IfSome, IfNone, IfOk, IfErr}
 use Rattle.std.specs.Borrow.{Fml, MutBor}
 use Rattle.std.specs.Io.BufRead.{Rests}
-use Rattle.qa_read.specs.Cuts.{HasNoPiece, IsPlace}
-use Rattle.qa_read.specs.declared.cut.SplitFault.{SplitFault}
-use Rattle.qa_read.specs.declared.cut.SplitFault.TheVariants as split
+use Rattle.qa_cut.specs.Cuts.{HasNoPiece, IsPlace}
+use Rattle.qa_cut.specs.declared.cutter.SplitFault.{SplitFault}
+use Rattle.qa_cut.specs.declared.cutter.SplitFault.TheVariants as split
 use Rattle.qa_qlog.specs.declared.texts.Found.{Found}
 use Rattle.qa_qlog.specs.declared.texts.Text.{Text}
 use Rattle.qa_qlog.specs.declared.texts.TextFault.{TextFault}

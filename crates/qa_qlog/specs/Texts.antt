@@ -2,7 +2,7 @@
 use Rattle.std.specs.Prelude.{◌==◌, ◌||◌, ◌&&◌, ◌+◌, ◌++◌, ℕ, Bool, List, [], ◌∷◌, length, min}
 use Rattle.std.specs.Prelude.{nat_le, nat_lt, count_by, Option, Some, None, if◌then◌else◌}
 use Rattle.std.specs.List.{list_all}
-use Rattle.qa_read.specs.Cuts.{is_mark, Uncut}
+use Rattle.qa_cut.specs.Cuts.{is_mark, Uncut}
 
 abbrev pub line_feed : ℕ
 line_feed = 10

@@ -1,12 +1,12 @@
 //! The texts of a log in sequence form, out of bytes that come in parts.
 ghost use Rattle.std.specs.Prelude.{◌≡◌, count_by};
-ghost use Rattle.qa_read.specs.Cuts.{is_mark};
+ghost use Rattle.qa_cut.specs.Cuts.{is_mark};
 ghost use Rattle.qa_qlog.specs.Marks.{byte_of};
 ghost use Rattle.qa_qlog.specs.Taking as taking;
 ghost use Rattle.qa_qlog.specs.Texts as texts;
 
 use memchr::memchr_iter;
-use qa_read::{Cutter, Place, SplitFault};
+use qa_cut::{Cutter, Place, SplitFault};
 use std::alloc::{AllocError, Global};
 use std::marker::Model;
 use thiserror::Error;

@@ -1,10 +1,8 @@
 //! The line format, for someone who reads or writes traces: bytes that come in pieces are cut into
 //! lines, a line is read, and a line is written.
 //!
-//! Reading is proved in `qa_read`, and writing here.
+//! Cutting is proved in `qa_cut`, reading in `qa_read`, and writing in `qa_write`.
 #![tactic(auto)]
-
-mod writer;
 
 pub use qa_base::limits::MAX_LINE_LENGTH;
 pub use qa_base::{
@@ -12,6 +10,7 @@ pub use qa_base::{
     PacketNumber, Permission, RangeFault, Role, SentPacket, Space, Span, Spans, Ticks, TimeUnit,
     TimerKind,
 };
+pub use qa_cut::{SplitFault, Splitter};
 pub use qa_format::{Fault, Line};
-pub use qa_read::{LineFault, SplitFault, Splitter, read_line};
-pub use writer::{ranges_list, write_line};
+pub use qa_read::{LineFault, read_line};
+pub use qa_write::{ranges_list, write_line};

@@ -16,7 +16,7 @@ use Rattle.qa_format.specs.verdicts.Verdict.{Judging, Reading, header_in, events
 use Rattle.qa_format.proofs.verdicts.Cuts.{lines_append, last_line_at, first_line, first_line_is_long, first_line_stands}
 use Rattle.qa_format.proofs.verdicts.Fixed.{fixed_by_length, fixed_stays}
 use Rattle.qa_format.proofs.verdicts.Stops.{first_stop-snoc, no_stop_or_stop, verdict_at_stop, verdict_stays}
-use Rattle.qa_read.specs.Stream.{BeginsTooLong}
+use Rattle.qa_cut.specs.Stream.{BeginsTooLong}
 use Rattle.qa_why.specs.Texts.{seen, unreadable_text}
 use Rattle.qa_check.specs.Places.{good_lines, judged_at}
 use Rattle.qa_why.specs.Why.{told_at, unreadable_in, why_by}

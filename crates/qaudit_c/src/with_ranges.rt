@@ -12,7 +12,7 @@ use qa_base::limits::MAX_LINE_LENGTH;
 use qa_base::{Ack, Event};
 use qa_check::Line;
 use qa_embed::Session;
-use qa_trace::write_line;
+use qa_write::write_line;
 use std::alloc::{AllocError, Global};
 
 /// For so many ranges a line has room, whatever their numbers are.

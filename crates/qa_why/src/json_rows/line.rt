@@ -9,7 +9,7 @@ use crate::json_rows::state::state_text;
 use itoa::Buffer;
 use qa_format::Line;
 use qa_ledger::Explains;
-use qa_trace::write_line;
+use qa_write::write_line;
 use std::alloc::{AllocError, Global};
 
 /// Appends bytes.

@@ -1,0 +1,4 @@
+pub mod Cuts
+pub mod Cutting
+pub mod Lending
+pub mod Stream

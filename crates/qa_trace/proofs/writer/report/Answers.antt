@@ -1,5 +1,0 @@
-use Rattle.std.proofs.Common.{rules}
-use Rattle.qa_trace.proofs.writer.report.Goals as goal
-
-pub returns-in-None : goal.returns-in-None
-returns-in-None c = search rules
