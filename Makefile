@@ -53,7 +53,7 @@ python_of_qlog := $(addprefix conformance/qlog/,qlog-to-trace compare dialects f
 python_of_netlog := netlog/netlog-to-qlog $(wildcard netlog/netlog_to_qlog/*.py netlog/*.py)
 # captures/transfer.py runs where aioquic is, and is checked for style alone.
 python_of_captures := captures/audit.py captures/causes.py captures/lateness captures/logs.py captures/run captures/stacks.py captures/table captures/test_causes.py captures/test_delay.py captures/test_lateness.py captures/test_upload.py examples/delay.py examples/logger.py
-python_of_release := $(addprefix release/,archive edits minutes prove unproved) $(wildcard release/*.py)
+python_of_release := $(addprefix release/,archive edits jobs minutes prove unproved) $(wildcard release/*.py)
 python_of_bindings := $(wildcard bindings/python/*.py)
 # Checked for style alone, since they need pytest.
 python_of_recipes := $(wildcard examples/embedding/pytest/*.py)
@@ -147,9 +147,10 @@ unproved:
 # it only where it was built before.
 test_library: $(bindings)
 
-# `rt ci` proves all crates from nothing, and leaves each program built of what it proved.
+# `rt ci` proves all crates from nothing, and leaves each program built of what it proved. RT_JOBS says how many
+# at a time; if it is not set, the processors and the free memory do.
 gate:
-	rt ci
+	RT_JOBS=$$(release/jobs) rt ci
 
 conformance: $(conformance) links made_up contracts crates words wrong commands $(runner_tests) test_qlog test_netlog test_captures test_release
 

@@ -98,7 +98,7 @@ class ContractsTest(unittest.TestCase):
         function: str = "is_far",
         clauses: tuple[str, ...] = (ORDER, IS_FAR),
         edits: list[str] | None = None,
-        gate: tuple[str, ...] = ("not_taken",),
+        gate: tuple[str, ...] = ("qa/not_taken",),
         tests: tuple[dict[str, str], ...] = (),
     ) -> None:
         """Writes a list of one function."""
@@ -209,7 +209,8 @@ class ContractsTest(unittest.TestCase):
         listed: dict[str, Any] = {"file": FILE, "function": "is_far", "edits": []}
         listed["clauses"] = [ORDER, IS_FAR]
         functions = [listed | {"edits": ["qa/strict"]}, listed]
-        self.write(IN_CONTRACTS, json.dumps({"gate": [], "tests": [], "functions": functions}))
+        named = {"gate": ["qa/not_taken"], "tests": [], "functions": functions}
+        self.write(IN_CONTRACTS, json.dumps(named))
         self.assert_failures(*[f"{FILE}: is_far: is in {IN_CONTRACTS} twice"] * 2)
 
     def test_contract_for_an_edit_of_another_function(self) -> None:
@@ -254,6 +255,17 @@ class ContractsTest(unittest.TestCase):
             f"{IN_REASONS}: qa/dropped: `okay` is no function, no clause and no edit of the gate"
         )
 
+    def test_reason_that_names_an_edit_of_a_release(self) -> None:
+        self.write_reasons({"qa/dropped": "`qa/strict` is of the same function"})
+        said = "the reason does not say that a release tries it"
+        self.assert_failures(f"{IN_REASONS}: qa/dropped: `qa/strict` is in edits/, and {said}")
+        self.write_reasons({"qa/dropped": "only a release tries it, as it does `qa/strict`"})
+        self.lines(0)
+        self.write_reasons({"qa/dropped": "only a release tries it, as it does `strict`"})
+        self.lines(1)
+        self.write_reasons({"qa/dropped": "`qa/not_taken` is of the same function"})
+        self.lines(0)
+
     # Edits.
 
     def test_edit_that_cannot_be_applied(self) -> None:
@@ -277,6 +289,7 @@ class ContractsTest(unittest.TestCase):
 
     def test_edit_that_the_gate_has_too(self) -> None:
         self.write("crates/qa/must-fail/dropped.edit", DROPPED)
+        self.write_contracts(edits=["qa/strict"], gate=("qa/dropped", "qa/not_taken"))
         self.assert_failures("edits/qa/dropped: the gate has an edit of this name")
 
     def write_tested(self, edit: str, file: str, test: str) -> None:
@@ -298,9 +311,14 @@ class ContractsTest(unittest.TestCase):
         self.write_tested("qa/not_taken", "program/stdin", "")
         self.assert_failures("qa/not_taken: there is no such edit in edits/")
 
-    def test_named_wrong_body_that_left_the_gate(self) -> None:
-        self.write_contracts(edits=["qa/strict"], gate=("not_taken", "strict"))
-        self.assert_failures("strict: no crate has this edit in the gate")
+    def test_edit_that_left_the_gate(self) -> None:
+        self.write_contracts(edits=["qa/strict"], gate=("qa/not_taken", "qa/strict"))
+        self.assert_failures("crates/qa/must-fail/strict.edit: the gate does not try this edit")
+
+    def test_edit_that_nobody_let_into_the_gate(self) -> None:
+        self.write_contracts(edits=["qa/strict"], gate=())
+        failure = f"{IN_CONTRACTS} does not list it"
+        self.assert_failures(f"crates/qa/must-fail/not_taken.edit: {failure}")
 
     # What it prints.
 

@@ -6,6 +6,8 @@ from collections.abc import Iterable
 from dataclasses import dataclass
 from pathlib import Path
 
+from machine import lanes
+
 TOP = Path(__file__).resolve().parent.parent
 LIST = "crates.txt"
 # What `make build` proves.
@@ -96,11 +98,11 @@ def longest_chains(crates: list[Crate], seconds: dict[str, float]) -> dict[str, 
     return chains
 
 
-def elapsed(crates: list[Crate], seconds: dict[str, float], processors: int) -> float:
+def elapsed(crates: list[Crate], seconds: dict[str, float], at_a_time: int) -> float:
     """About how many seconds pass until all crates are proved, each after those that it uses.
 
-    Each takes one processor, and the one with the longest chain above it goes first. A processor
-    that would be idle can help with a crate, so it can be faster.
+    Each takes one processor, as with RT_JOBS, and the one with the longest chain above it goes
+    first.
     """
     chains = longest_chains(crates, seconds)
     waiting = sorted(crates, key=lambda crate: -chains[crate.name])
@@ -109,7 +111,7 @@ def elapsed(crates: list[Crate], seconds: dict[str, float], processors: int) -> 
     now = 0.0
     while waiting or running:
         ready = [crate for crate in waiting if proved.issuperset(crate.below)]
-        for crate in ready[: processors - len(running)]:
+        for crate in ready[: at_a_time - len(running)]:
             heapq.heappush(running, (now + seconds[crate.name], crate.name))
             waiting.remove(crate)
         now, name = heapq.heappop(running)
@@ -117,9 +119,9 @@ def elapsed(crates: list[Crate], seconds: dict[str, float], processors: int) -> 
     return now
 
 
-def minutes(crates: list[Crate], top: Path, processors: int) -> int:
-    """About how many minutes it takes to prove the crates from nothing, at least one."""
-    return max(1, round(elapsed(crates, processor_seconds(crates, top), processors) / 60))
+def minutes(crates: list[Crate], top: Path) -> int:
+    """About how many minutes it takes to prove the crates from nothing here, at least one."""
+    return max(1, round(elapsed(crates, processor_seconds(crates, top), lanes()) / 60))
 
 
 def in_words(count: int, word: str) -> str:

@@ -17,6 +17,7 @@ import subprocess
 import sys
 import time
 import unittest
+import unittest.mock
 from pathlib import Path
 from typing import Any
 
@@ -25,7 +26,8 @@ sys.path.append(str(HERE.parent / "conformance"))
 
 from testing import new_folder, script, write_program  # noqa: E402
 
-from crates import Crate, Stopped, crates_of, elapsed, processor_seconds  # noqa: E402
+import machine  # noqa: E402
+from crates import Crate, Stopped, crates_of, elapsed, minutes, processor_seconds  # noqa: E402
 from watching import Watch  # noqa: E402
 
 LISTED = """\
@@ -38,9 +40,10 @@ other: low   # and no more
 """
 # It proves each crate of crates.txt, but one that says it is wrong, and builds each.
 RT = """\
-import pathlib, sys
+import os, pathlib, sys
 words = sys.argv[1:]
 print("said", *words)
+print("jobs", os.environ.get("RT_JOBS"))
 if words == ["ci"]:
     names = [line.split(":")[0] for line in open("crates.txt")]
     assert "#" not in open("crates.txt").read()
@@ -115,13 +118,13 @@ class Repository(unittest.TestCase):
         (self.top / name).parent.mkdir(parents=True, exist_ok=True)
         (self.top / name).write_text(text)
 
-    def run_program(self, *words: str) -> tuple[int, str, str]:
+    def run_program(self, *words: str, **names: str) -> tuple[int, str, str]:
         """Runs a program of the repository: its status, and what it writes on both streams."""
         path = f"{self.top / 'kit'}:{os.environ['PATH']}"
         ended = subprocess.run(
             [sys.executable, *words],
             cwd=self.top,
-            env={**os.environ, "PATH": path},
+            env={**os.environ, "PATH": path, **names},
             capture_output=True,
             text=True,
             check=False,
@@ -136,7 +139,7 @@ class Proving(Repository):
         status, out, _ = self.run_program("release/prove", "bin", "the_program")
         self.assertEqual(status, 0)
         first, *proved, last = out.splitlines()
-        self.assertRegex(first, r"proving 3 crates from nothing with \d+ processors?, about 1 min")
+        self.assertRegex(first, r"proving 3 crates from nothing, \d+ at a time, about 1 minute")
         names = ("low", "middle", "the_program")
         wanted = [f"{place} of 3: {name} proved in" for place, name in enumerate(names, 1)]
         self.assertEqual([line.partition(" 0 s, so far 0:0")[0] for line in proved], wanted)
@@ -191,6 +194,23 @@ class Proving(Repository):
             self.assertEqual(running.wait(30), 130)
         kit = Path("/proc") / (self.top / "number").read_text()
         self.assertFalse(kit.exists())
+
+    def test_as_many_at_a_time_as_are_asked_for(self) -> None:
+        self.write("crates/middle/src/lib.rt", "wrong\n")
+        command = ("release/prove", "bin", "the_program")
+        status, out, error = self.run_program(*command, RT_JOBS="7")
+        self.assertEqual(status, 1)
+        self.assertIn("proving 3 crates from nothing, 7 at a time, about 1 minute", out)
+        self.assertIn("jobs 7\n", error)
+        # Where nothing is asked for, the kit is told by how many too.
+        _, out, error = self.run_program(*command, RT_JOBS="")
+        found = re.search(r"from nothing, (\d+) at a time", out)
+        self.assertIsNotNone(found)
+        self.assertIn(f"jobs {found[1] if found else ''}\n", error)
+        self.folder("crates/qa_base/out/incremental")
+        self.write("crates/the_program/src/lib.rt", "wrong\n")
+        _, _, error = self.run_program(*command, RT_JOBS="6")
+        self.assertIn("said all check --jobs 6\njobs 6\n", error)
 
     def test_wrong_arguments(self) -> None:
         self.assertEqual(self.run_program("release/prove")[0], os.EX_USAGE)
@@ -418,12 +438,94 @@ class Estimates(Repository):
         seconds["other"] = 30.0
         self.assertEqual(elapsed(crates, seconds, 2), 40)
 
+    def test_minutes_by_jobs(self) -> None:
+        self.write("release/seconds.json", '{"low": 60, "middle": 120, "other": 120}')
+        crates = crates_of(["middle", "other"], self.top)
+        with (
+            unittest.mock.patch.dict(os.environ, {"RT_JOBS": "1"}),
+            unittest.mock.patch.object(machine, "processors", lambda _root: 2),
+        ):
+            self.assertEqual(minutes(crates, self.top), 5)
+            os.environ["RT_JOBS"] = "2"
+            self.assertEqual(minutes(crates, self.top), 3)
+
     def test_seconds_by_lines(self) -> None:
         # Ten lines a crate, of which one was measured, and one has twice as many.
         self.write("release/seconds.json", '{"low": 30, "gone": 1000}')
         self.write("crates/middle/proofs/one.antt", 10 * "text\n")
         found = processor_seconds(crates_of(["the_program"], self.top), self.top)
         self.assertEqual(found, {"low": 30, "middle": 60, "the_program": 30})
+
+
+class Machine(unittest.TestCase):
+    """How many crates are proved at a time."""
+
+    def setUp(self) -> None:
+        self.top = new_folder(self)
+        self.here = len(os.sched_getaffinity(0))
+        patched = unittest.mock.patch.dict(os.environ, {"RT_JOBS": ""})
+        patched.start()
+        self.addCleanup(patched.stop)
+
+    def write(self, name: str, text: str) -> None:
+        """Writes a file of the system."""
+        (self.top / name).parent.mkdir(parents=True, exist_ok=True)
+        (self.top / name).write_text(text)
+
+    def write_free(self, gigabytes: float) -> None:
+        """So many gigabytes are free."""
+        kilobytes = round(gigabytes * 1_000_000_000 / 1024)
+        self.write("proc/meminfo", f"MemTotal: 9 kB\nMemAvailable:   {kilobytes} kB\n")
+
+    def test_by_free_memory(self) -> None:
+        with unittest.mock.patch.object(machine, "processors", lambda _root: 4):
+            for gigabytes, wanted in ((22.5, 4), (20.1, 4), (19.9, 3), (10.1, 2), (3, 1), (90, 4)):
+                self.write_free(gigabytes)
+                self.assertEqual(machine.jobs(self.top), wanted, gigabytes)
+
+    def test_by_processors(self) -> None:
+        self.write_free(5_000)
+        self.assertEqual(machine.jobs(self.top), self.here)
+        self.write("sys/fs/cgroup/cpu.max", "max 100000\n")
+        self.assertEqual(machine.jobs(self.top), self.here)
+        self.write("sys/fs/cgroup/cpu.max", "100000 100000\n")
+        self.assertEqual(machine.jobs(self.top), 1)
+        self.write("sys/fs/cgroup/cpu.max", "50000 100000\n")
+        self.assertEqual(machine.jobs(self.top), 1)
+        self.write("sys/fs/cgroup/cpu.max", "max 100000\n")
+        self.write("sys/fs/cgroup/cpu/cpu.cfs_quota_us", "150000\n")
+        self.write("sys/fs/cgroup/cpu/cpu.cfs_period_us", "100000\n")
+        self.assertEqual(machine.jobs(self.top), 1)
+
+    def test_by_the_limit_of_a_control_group(self) -> None:
+        self.write_free(90)
+        self.write("sys/fs/cgroup/memory.max", "12000000000\n")
+        self.write("sys/fs/cgroup/memory.stat", "file 9\nanon 1000000000\n")
+        self.assertEqual(machine.free_memory(self.top), 11_000_000_000)
+        self.write("sys/fs/cgroup/memory.max", "max\n")
+        self.assertGreater(machine.free_memory(self.top), 89_000_000_000)
+
+    def test_where_nothing_says_how_much_is_free(self) -> None:
+        self.assertEqual(machine.jobs(self.top), 1)
+
+    def test_what_is_asked_for(self) -> None:
+        self.write_free(3)
+        os.environ["RT_JOBS"] = str(self.here + 5)
+        self.assertEqual(machine.jobs(self.top), self.here + 5)
+        # More do not get on than there are processors.
+        self.assertEqual(machine.lanes(self.top), self.here)
+        for nothing in ("", "many", "0"):
+            os.environ["RT_JOBS"] = nothing
+            self.assertEqual(machine.jobs(self.top), 1)
+
+    def test_the_program(self) -> None:
+        command = [sys.executable, str(HERE / "jobs")]
+        for wanted in ("3", str(machine.jobs())):
+            names = {**os.environ, "RT_JOBS": wanted}
+            ended = subprocess.run(command, env=names, capture_output=True, text=True, check=True)
+            self.assertEqual(ended.stdout, f"{wanted}\n")
+        ended = subprocess.run([*command, "more"], capture_output=True, text=True, check=False)
+        self.assertEqual(ended.returncode, os.EX_USAGE)
 
 
 class Watching(unittest.TestCase):

@@ -96,12 +96,17 @@ class Watch:
 
 
 class Command:
-    """A command whose lines are read while its processes are watched."""
+    """A command whose lines are read while its processes are watched. Its environment is given."""
 
-    def __init__(self, words: list[str], folder: Path) -> None:
+    def __init__(self, words: list[str], folder: Path, names: dict[str, str]) -> None:
         self.watch = Watch()
         self.process = subprocess.Popen(
-            words, cwd=folder, stdout=subprocess.PIPE, stderr=subprocess.STDOUT, text=True
+            words,
+            cwd=folder,
+            env=names,
+            stdout=subprocess.PIPE,
+            stderr=subprocess.STDOUT,
+            text=True,
         )
 
     def lines(self, interval: float) -> Iterator[str | None]:
