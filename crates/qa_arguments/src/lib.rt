@@ -1,8 +1,10 @@
-//! The arguments of `qaudit` and of `qaudit-why`: what they ask for, or that they are refused.
+//! The arguments of `qaudit`, `qaudit-why` and `qlog-to-trace`: what they ask for, or that they are
+//! refused.
 #![tactic(auto)]
 
 mod fault;
 mod parsing;
+pub mod qlog;
 mod reading;
 pub mod why;
 

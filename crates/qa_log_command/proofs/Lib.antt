@@ -1,3 +1,1 @@
-pub mod Going
-pub mod Handed
 pub mod WrittenLines

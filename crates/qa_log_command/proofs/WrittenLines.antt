@@ -10,13 +10,13 @@ use Rattle.qa_check.specs.Failures.{failures_after}
 use Rattle.qa_commands.specs.Writes.{Writes}
 use Rattle.qa_convert.specs.OwnKeys.{AreEventLines, IsHeaderLine, IsWritten, IsWrittenEvent, Noted, noted, texts_of}
 use Rattle.qa_format.specs.format.Lines.{ended, with_lf}
-use Rattle.qa_log_command.specs.Failing.{ending_of, fails_to_write, is_write, stops_at_write}
+use Rattle.qa_log_command.specs.Failing.{ending_of, fails_to_write, is_write}
 use Rattle.qa_log_command.specs.Written.{AreLines, Leaves, Stream, WritesLines}
 use Rattle.qa_log_command.specs.declared.ending.Ending.{Ending}
 use Rattle.qa_log_command.specs.declared.ending.Ending.TheVariants as endings
 use Rattle.qa_log_command.specs.declared.failure.Failure.{Failure}
-use Rattle.qa_log_command.specs.declared.failure.Failure.TheVariants.{Open, Read, TooLong, Log, Write, OutOfMemory}
-use Rattle.qa_log_command.specs.declared.failure.Stopped.{Stopped}
+use Rattle.qa_log_command.specs.declared.failure.Failure.TheVariants.{Log, Write}
+use Rattle.qa_log_lines.specs.declared.failure.LogFailure.TheVariants as logs
 
 -- ---- lines
 
@@ -59,6 +59,14 @@ wrote_more true a b c n n1 n2 front rest first then = record {
   counted = then.counted ∙ ap (failures_after true) first.counted;
 }
 
+pub wrote_on : (a b c : Option (List ℕ)) (n n1 n2 : ℕ) (parts : List (List ℕ)) (lines more : List ℕ) → Writes false a b n n1 (concat parts ++ lines) → Writes false b c n1 n2 more → Writes false a c n n2 (concat (parts ++ lines ∷ []) ++ more)
+wrote_on a b c n n1 n2 parts lines more first then =
+    rw (concat_one parts lines) (wrote_more false a b c n n1 n2 (concat parts ++ lines) more first then)
+
+pub wrote_end : (a b c : Option (List ℕ)) (n n1 n2 : ℕ) (lines more : List ℕ) → more ≡ [] → Writes false a b n n1 lines → Writes false b c n1 n2 more → Writes false a c n n2 lines
+wrote_end a b c n n1 n2 lines more none first then =
+    subst (Writes false a c n n2) (ap (λ k. lines ++ k) none ∙ append-nil lines) (wrote_more false a b c n n1 n2 lines more first then)
+
 pub no_lines : (s : Stream) → WritesLines false s s
 no_lines s = ([], ([], tt, refl), wrote_nothing s.0 s.1)
 
@@ -68,20 +76,10 @@ more_lines failed a b c (front, front_lines, first) (rest, rest_lines, then) =
 
 -- ---- what `?` hands on
 
-pub handed_on : {A : Type 0} (r : Result A Failure) (failure : Failure) → IsErrAnd r (λ f. f ≡ failure) → r ≡ Err failure
-handed_on (Ok a) failure is = absurd is
-handed_on (Err f) failure is = ap Err is
-
 -- whether it fails to write is by the failure that is handed on
-pub fails_as : {A : Type 0} (failed : Bool) (r : Result A Failure) (failure : Failure) → IsErrAnd r (λ f. f ≡ failure) → is_write failure ≡ failed
-    → fails_to_write r ≡ failed
-fails_as failed (Ok a) failure is write = absurd is
-fails_as failed (Err f) failure is write = ap is_write is ∙ write
-
-pub stopped_by : {A : Type 0} (r : Result A Stopped) (failure : Failure) → IsErrAnd r (λ s. s.failure ≡ failure) → is_write failure ≡ false
-    → stops_at_write r ≡ false
-stopped_by (Ok a) failure is unwritten = absurd is
-stopped_by (Err s) failure is unwritten = ap is_write is ∙ unwritten
+pub fails_as : {A : Type 0} (failed : Bool) (r : Result A Failure) → IsErrAnd r (λ f. is_write f ≡ failed) → fails_to_write r ≡ failed
+fails_as failed (Ok a) is = absurd is
+fails_as failed (Err f) is = is
 
 -- ---- how the program ends
 
@@ -89,12 +87,12 @@ failed_leaves : (failed : Bool) (old new : Stream) → WritesLines failed old ne
 failed_leaves failed old new (text, lines, wrote) = (failed, (text, wrote))
 
 by_failure : (failure : Failure) (old new : Stream) → WritesLines (is_write failure) old new → Leaves (ending_of failure) old new
-by_failure (Open e) old new wrote = failed_leaves false old new wrote
-by_failure (Read e) old new wrote = failed_leaves false old new wrote
-by_failure TooLong old new wrote = failed_leaves false old new wrote
-by_failure (Log fault) old new wrote = wrote
+by_failure (Log (logs.Open e, n)) old new wrote = failed_leaves false old new wrote
+by_failure (Log (logs.Read e, n)) old new wrote = failed_leaves false old new wrote
+by_failure (Log (logs.TooLong, n)) old new wrote = failed_leaves false old new wrote
+by_failure (Log (logs.Log fault, n)) old new wrote = wrote
+by_failure (Log (logs.OutOfMemory, n)) old new wrote = failed_leaves false old new wrote
 by_failure (Write e) old new wrote = failed_leaves true old new wrote
-by_failure OutOfMemory old new wrote = failed_leaves false old new wrote
 
 -- it stopped by this failure, which decides how it ends, or for want of memory to say so
 pub stopped_leaves : (failure : Failure) (ending : Ending) (old new : Stream) → (ending ≡ endings.Failed) ⊎ (ending ≡ ending_of failure)

@@ -1,5 +1,4 @@
+pub mod Converting
 pub mod Ending
 pub mod Failing
-pub mod Handing
-pub mod Reading
 pub mod Written

@@ -4,13 +4,14 @@ ghost use Rattle.std.specs.Prelude.{◌≡◌, ◌≢◌, Bool};
 ghost use Rattle.qa_log_command.specs.Ending.{status_of};
 ghost use Rattle.qa_log_command.specs.Written.{Leaves, WritesLines};
 
-use crate::arguments::{Asked, Wanted, parse};
+use crate::asking::Conversion;
 use crate::converting::convert;
 use crate::ending::Ending;
-use crate::failure::Stopped;
+use crate::failure::Failure;
 use crate::output::write_text;
 use crate::telling::{tell, tell_failure, tell_no_memory, tell_trace};
 use qa_arguments::ArgumentsFault;
+use qa_arguments::qlog::{Asked, ConversionRequest, parse};
 use qa_check::{Sink, Source, shown_name};
 use qa_commands::write_lines;
 use std::alloc::{AllocError, Global};
@@ -66,7 +67,7 @@ fn perform<R: Files, I: Source, O: Sink, E: Sink>(
     ensures unread { result ≡ Ending.Refused → streams.new.input ≡ streams.old.input }
 {
     match parse(alloc, arguments) {
-        Ok(Asked::Trace(wanted)) => write_trace(rt, alloc, &wanted, streams),
+        Ok(Asked::Trace(asked)) => write_trace(rt, alloc, &asked, streams),
         Ok(Asked::Text(text)) => show(alloc, text.as_str(), streams),
         Ok(Asked::Nothing(text)) => {
             let text = refusal(alloc, arguments, text);
@@ -81,7 +82,7 @@ fn perform<R: Files, I: Source, O: Sink, E: Sink>(
 fn write_trace<R: Files, I: Source, O: Sink, E: Sink>(
     rt: &R,
     alloc: Global,
-    wanted: &Wanted<'_>,
+    asked: &ConversionRequest<'_>,
     streams: &mut Streams<I, O, E>,
 ) -> Ending
     ensures written { Leaves result
@@ -92,11 +93,18 @@ fn write_trace<R: Files, I: Source, O: Sink, E: Sink>(
         (O.held streams.new.output, O.write_failures streams.new.output) }
     ensures taken { result ≢ Ending.Refused }
 {
-    announce(wanted.file, streams.is_terminal, &mut streams.error);
-    let name = wanted.file.unwrap_or(STANDARD_INPUT);
-    match convert(rt, alloc, wanted, &mut streams.input, &mut streams.output) {
-        Ok(trace) => tell_trace(alloc, name, &trace, wanted.has_notes, &mut streams.error),
-        Err(stopped) => tell_failure(alloc, name, &stopped, &mut streams.error),
+    announce(asked.file, streams.is_terminal, &mut streams.error);
+    let name = asked.file.unwrap_or(STANDARD_INPUT);
+    let conversion = Conversion::of(asked);
+    match convert(
+        rt,
+        alloc,
+        &conversion,
+        &mut streams.input,
+        &mut streams.output,
+    ) {
+        Ok(trace) => tell_trace(alloc, name, &trace, asked.has_notes, &mut streams.error),
+        Err(failure) => tell_failure(alloc, name, &failure, &mut streams.error),
     }
 }
 
@@ -120,9 +128,9 @@ fn show<I: Source, O: Sink, E: Sink>(
 {
     match write_text(&mut streams.output, text.as_bytes()) {
         Ok(()) => Ending::Written,
-        Err(failure) => {
-            let stopped = Stopped::from(failure);
-            tell_failure(alloc, ARGUMENTS, &stopped, &mut streams.error)
+        Err(error) => {
+            let failure = Failure::Write(error);
+            tell_failure(alloc, ARGUMENTS, &failure, &mut streams.error)
         }
     }
 }

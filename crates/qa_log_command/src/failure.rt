@@ -1,62 +1,35 @@
-//! Why a log was not converted whole.
+//! Why the trace of a log was not written whole.
 
-ghost use Rattle.std.specs.Prelude.{◌≡◌, false};
-ghost use Rattle.qa_log_command.specs.Failing.{ending_of, is_write};
-ghost use Rattle.qa_log_command.specs.declared.failure.Failure.TheVariants as failures;
+ghost use Rattle.std.specs.Prelude.{◌≡◌, false, true};
+ghost use Rattle.qa_log_command.specs.Failing.{ending_of, ending_of_log, is_write};
 
 use crate::ending::Ending;
-use qa_logs::LogFault;
-use std::alloc::{AllocError, AllocFailed, Global};
+use qa_log_lines::{Interruption, LogFailure};
+use std::alloc::{AllocError, Global};
 use std::io;
-use thiserror::Error;
 
 /// Why there is no trace, or no more of it.
-#[derive(Debug, Drop, Error)]
+#[derive(Debug, Drop)]
 pub enum Failure {
-    /// The file does not open.
-    #[error("{0}")]
-    Open(io::Error),
-    /// A read failed.
-    #[error("{0}")]
-    Read(io::Error),
-    /// The log can be read only once, and has more than is kept of such a log.
-    #[error("more than 1,073,741,824 bytes, the limit for a stream: name a file instead")]
-    TooLong,
-    /// The log gives no trace.
-    #[error("{0}")]
-    Log(LogFault),
+    /// The log gives no lines, or no more of them.
+    Log(Interruption),
     /// A write failed.
-    #[error("{0}")]
     Write(io::Error),
-    /// Out of memory.
-    #[error("out of memory")]
-    OutOfMemory,
 }
 
-impl From<LogFault> for Failure {
+impl From<LogFailure> for Failure {
     ghost from_gives = { λ _ failure. is_write failure ≡ false };
 
-    fn from(fault: LogFault) -> Self {
-        match fault {
-            LogFault::OutOfMemory => Failure::OutOfMemory,
-            other => Failure::Log(other),
-        }
+    fn from(failure: LogFailure) -> Self {
+        Failure::Log(Interruption::from(failure))
     }
 }
 
-impl From<AllocError> for Failure {
-    ghost from_gives = { λ _ failure. failure ≡ failures.OutOfMemory };
+impl From<io::Error> for Failure {
+    ghost from_gives = { λ _ failure. is_write failure ≡ true };
 
-    fn from(_refused: AllocError) -> Self {
-        Failure::OutOfMemory
-    }
-}
-
-impl<T: Drop> From<AllocFailed<T>> for Failure {
-    ghost from_gives = { λ _ failure. failure ≡ failures.OutOfMemory };
-
-    fn from(_refused: AllocFailed<T>) -> Self {
-        Failure::OutOfMemory
+    fn from(error: io::Error) -> Self {
+        Failure::Write(error)
     }
 }
 
@@ -66,45 +39,27 @@ impl Failure {
         ensures { result ≡ ending_of self.now }
     {
         match self {
-            Failure::Log(_) => Ending::NoTrace,
-            Failure::Open(_)
-            | Failure::Read(_)
-            | Failure::TooLong
-            | Failure::Write(_)
-            | Failure::OutOfMemory => Ending::Failed,
+            Failure::Log(interruption) => ending_by(&interruption.failure),
+            Failure::Write(_) => Ending::Failed,
         }
     }
-}
 
-/// A failure, and how many lines of the trace were written before.
-#[derive(Debug, Drop)]
-pub struct Stopped {
-    pub failure: Failure,
-    pub lines: u64,
-}
-
-impl Stopped {
-    /// What is said of the log of this name.
+    /// What is said of the log of this name. `AllocError` comes if it is out of memory.
     pub fn text(&self, alloc: Global, name: &str) -> Result<String, AllocError> {
-        let (failure, lines) = (&self.failure, self.lines);
-        match failure {
-            Failure::Open(error) if error.kind() == io::ErrorKind::NotFound => {
-                format!(in alloc; "cannot open {name}: no such file")
-            }
-            Failure::Open(error) => format!(in alloc; "cannot open {name}: {error}"),
+        match self {
+            Failure::Log(interruption) => interruption.text(alloc, name),
             Failure::Write(error) => format!(in alloc; "cannot write standard output: {error}"),
-            failure if lines == 0 => format!(in alloc; "{name}: {failure}"),
-            failure => {
-                format!(in alloc; "{name}: {failure}; the trace ends after its line {lines}")
-            }
         }
     }
 }
 
-impl From<Failure> for Stopped {
-    ghost from_gives = { λ failure stopped. stopped.failure ≡ failure };
-
-    fn from(failure: Failure) -> Self {
-        Stopped { failure, lines: 0 }
+/// How the program ends by what a log gives no line for.
+fn ending_by(failure: &LogFailure) -> Ending
+    ensures { result ≡ ending_of_log failure.now }
+{
+    match failure {
+        LogFailure::Log(_) => Ending::NoTrace,
+        LogFailure::Open(_) | LogFailure::Read(_) | LogFailure::TooLong | LogFailure::OutOfMemory =>
+            Ending::Failed,
     }
 }

@@ -4,7 +4,7 @@ ghost use Rattle.std.specs.Prelude.{◌≡◌, ◌⊎◌};
 ghost use Rattle.qa_log_command.specs.Failing.{ending_of};
 
 use crate::ending::Ending;
-use crate::failure::{Failure, Stopped};
+use crate::failure::Failure;
 use qa_check::Sink;
 use qa_commands::write_line;
 use qa_logs::Trace;
@@ -29,16 +29,16 @@ pub fn tell_no_memory<E: Sink>(name: &str, error: &mut E) -> Ending
 
 /// Writes why the log of this name was not converted whole, unless nobody reads its trace on, which
 /// is no mistake.
-pub fn tell_failure<E: Sink>(alloc: Global, name: &str, stopped: &Stopped, error: &mut E) -> Ending
-    ensures { (result ≡ Ending.Failed) ⊎ (result ≡ ending_of stopped.now.failure) }
+pub fn tell_failure<E: Sink>(alloc: Global, name: &str, failure: &Failure, error: &mut E) -> Ending
+    ensures { (result ≡ Ending.Failed) ⊎ (result ≡ ending_of failure.now) }
 {
-    if is_closed(&stopped.failure) {
+    if is_closed(failure) {
         return Ending::Failed;
     }
-    match stopped.text(alloc, name) {
+    match failure.text(alloc, name) {
         Ok(text) => {
             tell(text.as_str(), error);
-            stopped.failure.ending()
+            failure.ending()
         }
         Err(_) => tell_no_memory(name, error),
     }
@@ -48,7 +48,7 @@ pub fn tell_failure<E: Sink>(alloc: Global, name: &str, stopped: &Stopped, error
 fn is_closed(failure: &Failure) -> bool {
     match failure {
         Failure::Write(error) => error.kind() == io::ErrorKind::BrokenPipe,
-        _ => false,
+        Failure::Log(_) => false,
     }
 }
 

@@ -11,7 +11,7 @@ use qa_arguments::why::Inquiry;
 use qa_check::{AuditFault, Metered, Outcome, Sink};
 use qa_commands::write_line;
 use qa_convert::{Choices, Format};
-use qa_log_command::{Bytes, Failure as LogFailure, Lines, Stopped, TraceReader, lines_of};
+use qa_log_lines::{Bytes, Interruption, Lines, LogFailure, TraceReader, lines_of};
 use qa_logs::{Request, Trace};
 use std::alloc::{AllocError, Global};
 use std::io::Read;
@@ -39,7 +39,10 @@ pub fn tell_log<R: Files, O: Sink, E: Sink>(
     let bytes = Bytes::File(name);
     match lines_of(rt, alloc, &bytes, request()) {
         Ok(lines) => tell_lines(alloc, inquiry, name, lines, output, error),
-        Err(failure) => Err(tell_stopped(alloc, name, &Stopped::from(failure), error)),
+        Err(failure) => {
+            let interruption = Interruption::from(failure);
+            Err(tell_interruption(alloc, name, &interruption, error))
+        }
     }
 }
 
@@ -91,7 +94,7 @@ fn end<F: Read + Drop, E: Sink>(
             Err(_) => Err(Failure::Audit(AuditFault::OutOfMemory)),
         },
         Err(AuditFault::Read) => match reader.stopped() {
-            Some(stopped) => Err(tell_stopped(alloc, name, stopped, error)),
+            Some(interruption) => Err(tell_interruption(alloc, name, interruption, error)),
             None => Err(Failure::Audit(AuditFault::Read)),
         },
         Err(fault) => Err(Failure::Audit(fault)),
@@ -100,14 +103,19 @@ fn end<F: Read + Drop, E: Sink>(
 
 /// Why there is no verdict on the log of this name. What the log itself is the reason of is told
 /// here.
-fn tell_stopped<E: Sink>(alloc: Global, name: &str, stopped: &Stopped, error: &mut E) -> Failure
+fn tell_interruption<E: Sink>(
+    alloc: Global,
+    name: &str,
+    interruption: &Interruption,
+    error: &mut E,
+) -> Failure
     ensures { stops (Err result) ≡ false }
 {
-    match &stopped.failure {
+    match &interruption.failure {
         LogFailure::Open(_) => Failure::Open,
         LogFailure::OutOfMemory => Failure::Audit(AuditFault::OutOfMemory),
-        LogFailure::Read(_) | LogFailure::Write(_) => Failure::Audit(AuditFault::Read),
-        LogFailure::Log(_) | LogFailure::TooLong => match stopped.text(alloc, name) {
+        LogFailure::Read(_) => Failure::Audit(AuditFault::Read),
+        LogFailure::Log(_) | LogFailure::TooLong => match interruption.text(alloc, name) {
             Ok(text) => {
                 let _begun = write_line(PROGRAM, text.as_str(), error);
                 Failure::Log

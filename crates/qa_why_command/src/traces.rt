@@ -16,7 +16,7 @@ use crate::telling::tell_read;
 use qa_arguments::why::{Inquiry, Told};
 use qa_check::{AuditFault, Metered, Outcome, Sink, Source, write_whole};
 use qa_format::Form;
-use qa_log_command::is_log_file;
+use qa_log_lines::is_log_file;
 use std::alloc::Global;
 use std::fs;
 use std::rt::Files;

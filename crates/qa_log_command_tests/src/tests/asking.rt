@@ -1,10 +1,11 @@
 //! What arguments ask for.
 use crate::tests::running::arguments_of;
 use qa_arguments::ArgumentsFault;
+use qa_arguments::qlog::{Asked, parse};
 use qa_base::{Controller, LossByNumber, Role, ThresholdCounts, TimeUnit};
 use qa_check::Metered;
 use qa_convert::{Choices, Format};
-use qa_log_command::{Asked, parse, refuse};
+use qa_log_command::{Conversion, refuse};
 use qa_logs::Request;
 use std::alloc::Global;
 
@@ -13,7 +14,14 @@ use std::alloc::Global;
 fn asked_of(alloc: Global, words: &[&str], file: Option<&str>) -> Option<(Request, bool)> {
     let arguments = arguments_of(alloc, words).ok()?;
     match parse(alloc, &arguments) {
-        Ok(Asked::Trace(wanted)) if wanted.file == file => Some((wanted.request, wanted.has_notes)),
+        Ok(Asked::Trace(asked)) => {
+            let conversion = Conversion::of(&asked);
+            if conversion.file == file {
+                Some((conversion.request, asked.has_notes))
+            } else {
+                None
+            }
+        }
         _ => None,
     }
 }

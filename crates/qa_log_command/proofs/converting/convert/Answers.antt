@@ -1,16 +1,16 @@
 use Rattle.std.proofs.Common.{subst, sym}
-use Rattle.qa_log_command.specs.Reading.{WritesAll}
-use Rattle.qa_log_command.proofs.WrittenLines.{no_lines, stopped_by}
+use Rattle.qa_log_command.specs.Converting.{WritesAll}
+use Rattle.qa_log_command.proofs.WrittenLines.{fails_as, no_lines}
 use Rattle.qa_log_command.proofs.converting.convert.Goals as goal
 
 pub returns-in_err-bytes-clause-written : goal.returns-in_err-bytes-clause-written
 returns-in_err-bytes-clause-written g c =
-    rw (stopped_by c.from_residual.result c.in_err-bytes.field-0.0 c.from_residual.ensures.1 c.in_err-bytes.ensures.unwritten)
+    rw (fails_as false c.from_residual.result c.from_residual.ensures.1)
     (no_lines (g.O.Sink.held c.args.output.now, g.O.Sink.write_failures c.args.output.now))
 
 pub returns-in_err-lines-clause-written : goal.returns-in_err-lines-clause-written
 returns-in_err-lines-clause-written g c =
-    rw (stopped_by c.from_residual-in_err-lines.result c.in_err-lines.field-0.0 c.from_residual-in_err-lines.ensures.1 c.in_err-lines.ensures.unwritten)
+    rw (fails_as false c.from_residual-in_err-lines.result c.from_residual-in_err-lines.ensures.1)
     (no_lines (g.O.Sink.held c.args.output.now, g.O.Sink.write_failures c.args.output.now))
 
 pub returns-in-Ok-clause-all : goal.returns-in-Ok-clause-all

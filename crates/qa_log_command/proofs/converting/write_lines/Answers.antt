@@ -2,8 +2,8 @@ use Rattle.std.proofs.Common.{◌∙◌, [], ◌∷◌, ◌++◌, Ok, ap, false,
 use Rattle.std.proofs.lemmas.Bool.{not-false}
 use Rattle.std.specs.List.{concat}
 use Rattle.qa_logs.specs.Tracing.{shown}
-use Rattle.qa_log_command.proofs.Going.{goes_header, nothing_left, went_on, wrote_end, wrote_on}
-use Rattle.qa_log_command.proofs.WrittenLines.{fails_as, more_lines}
+use Rattle.qa_log_lines.proofs.Going.{goes_header, nothing_left, went_on}
+use Rattle.qa_log_command.proofs.WrittenLines.{fails_as, more_lines, wrote_end, wrote_on}
 use Rattle.qa_log_command.proofs.converting.write_lines.Goals as goal
 
 pub returns-in_err-give-2-clause-written : goal.returns-in_err-give-2-clause-written

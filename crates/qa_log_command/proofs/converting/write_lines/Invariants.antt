@@ -3,7 +3,7 @@ use Rattle.std.specs.List.{concat}
 use Rattle.qa_commands.specs.Writes.{Writes}
 use Rattle.qa_logs.specs.Cutting.{Steps}
 use Rattle.qa_logs.specs.Tracing.{shown}
-use Rattle.qa_log_command.specs.Reading.{GivesLines}
+use Rattle.qa_log_lines.specs.Reading.{GivesLines}
 use Rattle.qa_log_command.specs.Written.{WritesLines}
 use Rattle.qa_log_command.proofs.converting.write_lines.Given as goal
 
