@@ -52,7 +52,7 @@ python_of_qlog := $(addprefix conformance/qlog/,qlog-to-trace compare dialects f
 	$(wildcard conformance/qlog/qlog_to_trace/*.py conformance/qlog/tests/*.py)
 python_of_netlog := netlog/netlog-to-qlog $(wildcard netlog/netlog_to_qlog/*.py netlog/*.py)
 # captures/transfer.py runs where aioquic is, and is checked for style alone.
-python_of_captures := captures/audit.py captures/causes.py captures/lateness captures/logs.py captures/run captures/stacks.py captures/table captures/test_causes.py captures/test_delay.py captures/test_lateness.py captures/test_upload.py examples/delay.py examples/logger.py
+python_of_captures := captures/aioquic_timers.py captures/audit.py captures/causes.py captures/lateness captures/logs.py captures/run captures/stacks.py captures/table captures/test_aioquic_timers.py captures/test_causes.py captures/test_delay.py captures/test_lateness.py captures/test_upload.py examples/delay.py examples/logger.py
 python_of_release := $(addprefix release/,archive edits minutes prove unproved) $(wildcard release/*.py)
 python_of_bindings := $(wildcard bindings/python/*.py)
 # Checked for style alone, since they need pytest.
@@ -304,6 +304,7 @@ $(library_counted): $(library) conformance/fuzz/instrument
 	conformance/fuzz/instrument --library $@
 
 test_captures:
+	python3 captures/test_aioquic_timers.py
 	python3 captures/test_causes.py
 	python3 captures/test_delay.py
 	python3 captures/test_lateness.py
