@@ -59,6 +59,8 @@ class Checked(unittest.TestCase):
         self.put("conformance/traces/kept.report", "accepted\nevents 3\n")
         self.put("conformance/traces/broken.report", "refused line 4 V3 loss-not-owed\n")
         self.put("docs/rfc9002.md", PAGE)
+        self.put("docs/machine.md", "| Rule |\n|---|\n| V3 `loss-not-owed` |\n| V13 `early` |\n")
+        self.put("docs/format.md", "| Fault |\n|---|\n| F5 |\n")
         for name in ("rfc9000", "rfc9001", "rfc9002"):
             self.put(f"texts/{name}.txt", RFC if name == "rfc9002" else "")
         self.listed()
@@ -112,6 +114,10 @@ class Checked(unittest.TestCase):
     def test_a_file_of_definitions_that_is_not_there(self) -> None:
         self.listed({"definitions": ["Lost.owed"]})
         self.assert_fails("there is no definition Lost.owed")
+
+    def test_a_rule_that_is_not_there(self) -> None:
+        self.listed({"rules": ["V3", "V30"]})
+        self.assert_fails("there is no rule V30")
 
     def test_a_trace_that_is_not_there(self) -> None:
         self.listed({"accepted": ["gone"]})
