@@ -196,6 +196,14 @@ class Checked(unittest.TestCase):
         self.assert_fails("docs/page.md line 3: 'An ack-eliciting packet MUST be sent.' is in none",
                           self.check_rfc())
 
+    def test_a_quote_of_another_section(self) -> None:
+        self.put("docs/page.md", 'RFC 9002, 6.2: "An ack-eliciting packet MAY be sent."\n')
+        self.assertEqual(self.check_rfc()[0], 0)
+        self.put("docs/page.md", '7.5: "An ack-eliciting packet MAY be sent."\n')
+        self.assert_fails("is not in 7.5 of rfc9002", self.check_rfc())
+        self.put("docs/page.md", 'RFC 9001, 6.2: "An ack-eliciting packet MAY be sent."\n')
+        self.assert_fails("is not in 6.2 of rfc9001", self.check_rfc())
+
     def test_what_is_no_quote_is_listed(self) -> None:
         self.put("README.md", 'A comment: "to do: look at this again"\n')
         said = json.loads((self.folder / "conformance/rfc9002.json").read_text())
