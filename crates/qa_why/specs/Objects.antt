@@ -18,6 +18,7 @@ use Rattle.qa_explain.specs.members.Facts.{facts}
 use Rattle.qa_explain.specs.members.Losses.{owed}
 use Rattle.qa_explain.specs.members.Object.{flag_at, number_at, opened, string_at, text_of_all}
 use Rattle.qa_explain.specs.members.Subjects.{subject}
+use Rattle.qa_explain.specs.text.Sources.{requirement, source}
 use Rattle.qa_why.specs.Faults.{wanted}
 use Rattle.qa_why.specs.Hidden.{without_hidden}
 
@@ -51,11 +52,17 @@ abbrev pub field_at : Option Field → List Token
 field_at None = []
 field_at (Some f) = string_at (codes "field") (field_name f)
 
--- the rule by its number and its name, and the field that it is about
+-- where it stands: how strong the RFC is there, and in which section
+unfoldable pub source_members : Rule → List Token
+source_members r =
+    string_at (codes "requirement") (requirement (source r).level)
+    ++ string_at (codes "section") (source r).section
+
+-- the rule by its number and its name, the field that it is about, and where it stands
 unfoldable pub rule_members : Rule → List Token
 rule_members r =
     string_at (codes "rule") (codes "V" ++ decimal (rule_number r))
-    ++ string_at (codes "name") (rule_name r) ++ field_at (field_of r)
+    ++ string_at (codes "name") (rule_name r) ++ field_at (field_of r) ++ source_members r
 
 -- why line n is refused, which says an event that breaks a rule
 unfoldable pub refused_members : TimeUnit → ℕ → Rule → Event → Cause → List ℕ
