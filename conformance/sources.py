@@ -1,8 +1,8 @@
 """Where each rule comes from: how strong the RFC is there, its section, and what it says.
 
 It is written from RFC 9000, 9001 and 9002, and shares nothing with the proved program, whose table
-is in crates/qa_explain/specs/text/Sources.antt. If the cases of a rule have several levels, the
-table has the weaker one, and the sentence names the cases of the others with theirs.
+is in crates/qa_explain/specs/text/Sources.antt. If some cases of a rule have another level, its
+sentence names them with theirs.
 """
 
 from enum import StrEnum
@@ -67,7 +67,7 @@ SOURCES = {
         Level.DESCRIBED,
         "RFC 9002, 6.1",
         "a packet is declared lost if it meets the conditions there. This format: one line names"
-        " all that do, and no others.",
+        " all of them.",
     ),
     Rule.SPACE_GONE: Source(
         Level.DESCRIBED,

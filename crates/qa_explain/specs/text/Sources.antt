@@ -1,7 +1,6 @@
 -- Where each rule comes from: how strong the RFC is there, its section, and what it says.
 --
--- If the cases of a rule have several levels, the table has the weaker one, and the sentence names
--- the cases of the others with theirs.
+-- If some cases of a rule have another level, its sentence names them with theirs.
 use Rattle.std.specs.Prelude.{ℕ, List, codes, ◌++◌}
 use Rattle.qa_base.specs.declared.rule.Field.{Field}
 use Rattle.qa_base.specs.declared.rule.Field.TheVariants as field
@@ -76,7 +75,7 @@ source rule.LossNotOwed =
     (codes "a packet is declared lost if it meets the conditions there. At a probe timeout 6.2 forbids it (MUST NOT), and 6.2.4 permits it instead of a probe (MAY), which this model does not have.")
 source rule.LossSet =
     row level.Described (codes "RFC 9002, 6.1")
-    (codes "a packet is declared lost if it meets the conditions there. This format: one line names all that do, and no others.")
+    (codes "a packet is declared lost if it meets the conditions there. This format: one line names all of them.")
 source rule.SpaceGone =
     row level.Described (codes "RFC 9002, 6.4")
     (codes "packets of discarded keys are neither sent nor acknowledged. Initial packets MUST NOT be sent then (RFC 9001, 4.9.1).")

@@ -112,7 +112,7 @@ fn statement(rule: Rule) -> &'static str
         Rule::LossNotOwed =>
             "a packet is declared lost if it meets the conditions there. At a probe timeout 6.2 forbids it (MUST NOT), and 6.2.4 permits it instead of a probe (MAY), which this model does not have.",
         Rule::LossSet =>
-            "a packet is declared lost if it meets the conditions there. This format: one line names all that do, and no others.",
+            "a packet is declared lost if it meets the conditions there. This format: one line names all of them.",
         Rule::SpaceGone =>
             "packets of discarded keys are neither sent nor acknowledged. Initial packets MUST NOT be sent then (RFC 9001, 4.9.1).",
         Rule::NumberNotHigher => "increase the packet number within a space.",
