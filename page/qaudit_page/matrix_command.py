@@ -53,7 +53,7 @@ The exit status is 0 if all are accepted, 1 if one is refused, 2 if one cannot b
 or a program is missing or failed, and 64 if the arguments are wrong. With --against it is 0 if
 nothing is refused that was not before, and 1 if something is, or by another rule. With --known it
 is 0 if every violation is known, and 1 if one is new. With --fail-on must or should violations of
-what the RFC says more weakly are shown as ever, but do not make it 1."""
+what the RFC says more weakly are shown, but do not make it 1."""
 WIDTH = 40
 # How many processes may be started for each processor.
 MOST_A_CORE = 4
