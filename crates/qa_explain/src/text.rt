@@ -18,13 +18,13 @@ mod values;
 
 pub use deadlines::due_time;
 pub use facts::push_facts;
-pub use levels::Level;
 pub use pieces::{push_name, push_number, push_wide, push_words};
 pub use reports::differs;
 pub use roundings::rounding_hint;
 pub use runs::push_owed;
 pub use sentences::push_sentence;
-pub use sources::{level, push_source, section};
+pub use sources::push_source;
+pub(crate) use sources::{requirement, section};
 pub use subjects::push_subject;
 pub use times::push_time;
 pub use values::{held_of, is_in_bytes, push_amount, reported_of};

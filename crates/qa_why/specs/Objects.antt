@@ -17,8 +17,8 @@ use Rattle.qa_format.specs.format.Faults.{fault_name, fault_number, key_of}
 use Rattle.qa_explain.specs.members.Facts.{facts}
 use Rattle.qa_explain.specs.members.Losses.{owed}
 use Rattle.qa_explain.specs.members.Object.{flag_at, number_at, opened, string_at, text_of_all}
+use Rattle.qa_explain.specs.members.Sources.{source_members}
 use Rattle.qa_explain.specs.members.Subjects.{subject}
-use Rattle.qa_explain.specs.text.Sources.{requirement, source}
 use Rattle.qa_why.specs.Faults.{wanted}
 use Rattle.qa_why.specs.Hidden.{without_hidden}
 
@@ -51,12 +51,6 @@ accepted_members t = text_of_all (front (codes "accepted") ++ number_at (codes "
 abbrev pub field_at : Option Field → List Token
 field_at None = []
 field_at (Some f) = string_at (codes "field") (field_name f)
-
--- where it stands: how strong the RFC is there, and in which section
-unfoldable pub source_members : Rule → List Token
-source_members r =
-    string_at (codes "requirement") (requirement (source r).level)
-    ++ string_at (codes "section") (source r).section
 
 -- the rule by its number and its name, the field that it is about, and where it stands
 unfoldable pub rule_members : Rule → List Token

@@ -6,8 +6,7 @@ use crate::faults::wanted;
 use crate::hidden::without_hidden;
 use crate::lines::extend;
 use qa_base::{Event, Field, Key, Rule, TimeUnit, Totals};
-use qa_explain::members::{Object, push_facts, push_owed, push_subject};
-use qa_explain::text::{level, section};
+use qa_explain::members::{Object, push_facts, push_owed, push_source, push_subject};
 use qa_format::Fault;
 use qa_ledger::{Cause, Owed};
 use std::alloc::{AllocError, Global};
@@ -70,15 +69,6 @@ fn push_field(object: &mut Object, field: Option<Field>) -> Result<(), AllocErro
         None => Ok(()),
         Some(field) => object.string("field", field.name()),
     }
-}
-
-/// Where the rule stands: how strong the RFC is there, and in which section.
-#[tactic(auto, unfolding(crate::specs::Objects::source_members))]
-fn push_source(object: &mut Object, rule: Rule) -> Result<(), AllocError>
-    ensures { OnOk result (object.new ≡ object.old ++ text.source_members rule) }
-{
-    object.string("requirement", level(rule).requirement())?;
-    object.string("section", section(rule))
 }
 
 /// The rule by its number and its name, the field that it is about, and where it stands.

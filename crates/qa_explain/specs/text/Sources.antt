@@ -12,13 +12,13 @@ use Rattle.qa_explain.specs.declared.text.levels.Level.TheVariants as level
 -- ---- levels
 
 -- what programs call a level: a MUST NOT is a MUST
-abbrev pub requirement : Level → List ℕ
-requirement level.Must = codes "MUST"
-requirement level.MustNot = codes "MUST"
-requirement level.Should = codes "SHOULD"
-requirement level.Described = codes "described"
-requirement level.Example = codes "example"
-requirement level.Format = codes "format"
+abbrev pub name_of : Level → List ℕ
+name_of level.Must = codes "MUST"
+name_of level.MustNot = codes "MUST"
+name_of level.Should = codes "SHOULD"
+name_of level.Described = codes "described"
+name_of level.Example = codes "example"
+name_of level.Format = codes "format"
 
 -- what follows the section: this format itself has no level
 abbrev pub words_of : Level → List ℕ
@@ -118,6 +118,14 @@ source rule.TimerLate =
 source rule.CollapseMissing =
     row level.Must (codes "RFC 9002, 7.6.2")
     (codes "reduce the window to the minimum after persistent congestion: two datagrams here (7.2, RECOMMENDED). For controllers other than NewReno 7 refers to RFC 8085.")
+
+-- ---- for programs
+
+unfoldable pub requirement : Rule → List ℕ
+requirement r = name_of (source r).level
+
+unfoldable pub section : Rule → List ℕ
+section r = (source r).section
 
 -- ---- as a line
 

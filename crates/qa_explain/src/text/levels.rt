@@ -4,7 +4,7 @@ ghost use Rattle.qa_explain.specs.text.Sources as text;
 
 /// How strong the RFC is in what a rule says: by its keyword, or by where it stands.
 #[derive(Clone, Copy)]
-pub enum Level {
+pub(crate) enum Level {
     /// MUST.
     Must,
     /// MUST NOT.
@@ -24,8 +24,8 @@ impl Level {
     ghost use Rattle.qa_explain.specs.text.Sources as text;
 
     /// What programs call it: a MUST NOT is a MUST.
-    pub fn requirement(self) -> &'static str
-        ensures { result.now ≡ text.requirement self }
+    pub(crate) fn name(self) -> &'static str
+        ensures { result.now ≡ text.name_of self }
     {
         match self {
             Level::Must | Level::MustNot => "MUST",

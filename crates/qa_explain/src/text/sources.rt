@@ -24,7 +24,7 @@ fn value_level(field: Field) -> Level
 
 /// How strong the RFC is where the rule stands.
 #[tactic(auto, unfolding(crate::specs::text::Sources::source))]
-pub fn level(rule: Rule) -> Level
+fn level(rule: Rule) -> Level
     ensures { result ≡ (text.source rule).level }
 {
     match rule {
@@ -43,6 +43,14 @@ pub fn level(rule: Rule) -> Level
     }
 }
 
+/// What programs call that: `MUST`, `SHOULD`, `described`, `example` or `format`.
+#[tactic(auto, unfolding(crate::specs::text::Sources::requirement))]
+pub(crate) fn requirement(rule: Rule) -> &'static str
+    ensures { result.now ≡ text.requirement rule }
+{
+    level(rule).name()
+}
+
 // ---- where that is
 
 fn value_section(field: Field) -> &'static str
@@ -59,9 +67,9 @@ fn value_section(field: Field) -> &'static str
 }
 
 /// The RFC and its section where the rule stands; or this format, of a rule of its own.
-#[tactic(auto, unfolding(crate::specs::text::Sources::source))]
-pub fn section(rule: Rule) -> &'static str
-    ensures { result.now ≡ (text.source rule).section }
+#[tactic(auto, unfolding(crate::specs::text::Sources::source, crate::specs::text::Sources::section))]
+pub(crate) fn section(rule: Rule) -> &'static str
+    ensures { result.now ≡ text.section rule }
 {
     match rule {
         Rule::TimeBack | Rule::LossOwed | Rule::OwedAtEnd => "This format",
@@ -147,7 +155,7 @@ fn statement(rule: Rule) -> &'static str
 // ---- as a line
 
 /// Appends the line that says where the rule stands, how strong the RFC is there, and what it says.
-#[tactic(auto, unfolding(crate::specs::text::Sources::source_line))]
+#[tactic(auto, unfolding(crate::specs::text::Sources::source_line, crate::specs::text::Sources::section))]
 pub fn push_source(out: &mut String, rule: Rule) -> Result<(), AllocError>
     ensures { OnOk result (string_bytes out.new ≡ string_bytes out.old ++ text.source_text rule) }
 {
