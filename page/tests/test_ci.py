@@ -454,6 +454,12 @@ class Recipes(unittest.TestCase):
         ended = self.run_script(audit, **{**names, "QAUDIT_KNOWN": str(known)})
         self.assertEqual(ended.returncode, 0, ended.stderr)
         self.assertIn("::notice file=", ended.stdout)
+        shutil.rmtree(self.folder / "logs")
+        (self.folder / "logs").mkdir()
+        shutil.copyfile(TRACES / "app-pto-early.trace", self.folder / "logs" / "own.trace")
+        for fail_on, status in (("must", 0), ("any", 1)):
+            ended = self.run_script(audit, **names, QAUDIT_FAIL_ON=fail_on)
+            self.assertEqual(ended.returncode, status, ended.stderr)
 
     def test_the_template_of_gitlab(self) -> None:
         install, audit = self.steps_of("ci/gitlab.yml")
@@ -465,6 +471,10 @@ class Recipes(unittest.TestCase):
         ended = self.run_script(audit, **names)
         self.assertEqual(ended.returncode, 1, ended.stderr)
         self.assertTrue((self.folder / "qaudit-results/junit.xml").exists())
+        shutil.rmtree(self.folder / "logs")
+        (self.folder / "logs").mkdir()
+        shutil.copyfile(TRACES / "app-pto-early.trace", self.folder / "logs" / "own.trace")
+        self.assertEqual(self.run_script(audit, **names, QAUDIT_FAIL_ON="should").returncode, 0)
 
 
 if __name__ == "__main__":
