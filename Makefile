@@ -31,18 +31,18 @@ library_counted := bin/libqaudit-counted.a
 examples := examples/ten-packets.trace examples/eleven-packets.trace
 # The tests of the programs of conformance/, which mostly wait for one another's processes.
 runner_tests := test_run test_trials test_allowed test_mutations test_rows test_departures test_simulate test_links test_made_up \
-	test_contracts test_crates test_edits test_unproved test_words test_commands test_lost_lines test_bindings test_recipes test_fuzz_library \
-	test_surroundings test_terminals test_rfc9002
+	test_contracts test_crates test_levels test_edits test_unproved test_words test_commands test_lost_lines test_bindings test_recipes test_fuzz_library \
+	test_surroundings test_terminals
 # The tests of the pages in parts of about equal length, which can run side by side.
 tests_of_pages := test_page_in_browser test_page_opened test_page_without_browser
 in_browser := $(patsubst page/tests/%.py,tests.%,$(wildcard page/tests/test_browser_*.py))
 without_browser := $(patsubst page/tests/%.py,tests.%,$(filter-out page/tests/test_browser%,$(wildcard page/tests/test_*.py)))
 # The tests and checks that need no proof, the longest first.
-tests_in_python := $(tests_of_pages) test_qlog test_netlog test_captures $(runner_tests) test_release links made_up contracts crates words wrong rfc9002 commands
+tests_in_python := $(tests_of_pages) test_qlog test_netlog test_captures $(runner_tests) test_release links made_up contracts crates words wrong levels commands
 
 # All programs in Python, by the places where their names are unlike each other.
-python := $(addprefix conformance/,allocations contracts crates cuts failing fuzz_library large library links log_refusals made_up malicious memory mutations reasons recipes \
-	logs refusals rfc9002 run side_by_side simulate unproved words wrong commands) \
+python := $(addprefix conformance/,allocations contracts crates cuts failing fuzz_library large levels library links log_refusals made_up malicious memory mutations reasons recipes \
+	logs refusals run side_by_side simulate unproved words wrong commands) \
 	conformance/fuzz/instrument conformance/lines/make.py $(wildcard conformance/*.py)
 python_of_fuzz := conformance/fuzz/run
 # The pages, and what measures and tests them.
@@ -52,8 +52,8 @@ python_of_qlog := $(addprefix conformance/qlog/,qlog-to-trace compare dialects f
 	$(wildcard conformance/qlog/qlog_to_trace/*.py conformance/qlog/tests/*.py)
 python_of_netlog := netlog/netlog-to-qlog $(wildcard netlog/netlog_to_qlog/*.py netlog/*.py)
 # captures/transfer.py runs where aioquic is, and is checked for style alone.
-python_of_captures := captures/aioquic_timers.py captures/audit.py captures/causes.py captures/lateness captures/logs.py captures/run captures/stacks.py captures/table captures/test_aioquic_timers.py captures/test_causes.py captures/test_delay.py captures/test_lateness.py captures/test_upload.py examples/delay.py examples/logger.py
-python_of_release := $(addprefix release/,archive edits jobs minutes prove unproved) $(wildcard release/*.py)
+python_of_captures := captures/audit.py captures/causes.py captures/lateness captures/logs.py captures/run captures/stacks.py captures/table captures/test_causes.py captures/test_delay.py captures/test_lateness.py captures/test_upload.py examples/delay.py examples/logger.py
+python_of_release := $(addprefix release/,archive edits minutes prove unproved) $(wildcard release/*.py)
 python_of_bindings := $(wildcard bindings/python/*.py)
 # Checked for style alone, since they need pytest.
 python_of_recipes := $(wildcard examples/embedding/pytest/*.py)
@@ -69,7 +69,7 @@ conformance := conformance-cuts conformance-failing conformance-refusals conform
 bindings := conformance-library conformance-recipes bindings-rust bindings-go bindings-python
 
 .PHONY: deb help run build quick lib one_byte lines test test_library gate conformance $(bindings) $(conformance) \
-	links made_up contracts crates words wrong rfc9002 commands unproved $(runner_tests) test_qlog test_netlog fuzz fuzz_library test_captures test_release test_page $(tests_of_pages) pictures lint edits tried bench install dist clean
+	links made_up contracts crates words wrong levels commands unproved $(runner_tests) test_qlog test_netlog fuzz fuzz_library test_captures test_release test_page $(tests_of_pages) pictures lint edits tried bench install dist clean
 
 help:
 	@echo 'make run       audits $(examples)'
@@ -127,7 +127,7 @@ test:
 	@echo 'make test proves all crates and tries their must-fail edits, and runs the tests in Python beside that;'
 	@echo 'then it runs the programs over conformance/, and last the tests of the pages:'
 	@release/minutes --say test
-	$(MAKE) --no-print-directory -j 2 gate links made_up contracts crates words wrong rfc9002 commands $(runner_tests) test_qlog test_netlog test_captures test_release
+	$(MAKE) --no-print-directory -j 2 gate links made_up contracts crates words wrong levels commands $(runner_tests) test_qlog test_netlog test_captures test_release
 	$(MAKE) --no-print-directory -j 4 --output-sync=target $(conformance)
 	QAUDIT_WHY='$(abspath $(program_why))' QLOG_TO_TRACE='$(abspath $(program_of_logs))' \
 		$(MAKE) --no-print-directory test_page
@@ -147,12 +147,11 @@ unproved:
 # it only where it was built before.
 test_library: $(bindings)
 
-# `rt ci` proves all crates from nothing, and leaves each program built of what it proved. RT_JOBS says how many
-# at a time; if it is not set, the processors and the free memory do.
+# `rt ci` proves all crates from nothing, and leaves each program built of what it proved.
 gate:
-	RT_JOBS=$$(release/jobs) rt ci
+	rt ci
 
-conformance: $(conformance) links made_up contracts crates words wrong rfc9002 commands $(runner_tests) test_qlog test_netlog test_captures test_release
+conformance: $(conformance) links made_up contracts crates words wrong levels commands $(runner_tests) test_qlog test_netlog test_captures test_release
 
 conformance-cuts:
 	conformance/cuts $(program)
@@ -269,9 +268,9 @@ words:
 wrong:
 	conformance/wrong
 
-# docs/rfc9002.md must be as its table, and the definitions and traces that it names must be there.
-rfc9002:
-	conformance/rfc9002
+# docs/why.md must have the levels of the rules as the definitions and conformance/sources.py have them.
+levels:
+	conformance/levels
 
 # The commands in the pages must run, those that can without a proof and without a network.
 commands:
@@ -309,7 +308,6 @@ $(library_counted): $(library) conformance/fuzz/instrument
 	conformance/fuzz/instrument --library $@
 
 test_captures:
-	python3 captures/test_aioquic_timers.py
 	python3 captures/test_causes.py
 	python3 captures/test_delay.py
 	python3 captures/test_lateness.py
