@@ -6,8 +6,10 @@ Each test has a small repository in a temporary folder, or programs that are no 
 a stand-in for `rt`.
 """
 
+import contextlib
 import gzip
 import hashlib
+import io
 import json
 import os
 import re
@@ -615,6 +617,164 @@ class Unproved(Repository):
             self.assertEqual(status, 1)
             self.assertIn(last, error)
             self.assertNotIn("without a proof", out)
+
+
+# What the runner of a sweep writes, by what is in a file.
+SWEEP = """\
+#!{python}
+import pathlib, sys
+text = pathlib.Path("given").read_text()
+print(f"{{sys.argv[1:]}} {{text}}")
+print("FAILED" if text == "wrong" else f"{{text}} passed, 0 failed")
+sys.exit(text in ("wrong", "0"))
+"""
+
+
+class Sweeps(Repository):
+    """`sweeps` in a repository with two sweeps."""
+
+    def setUp(self) -> None:
+        super().setUp()
+        self.sweeps = script(HERE / "sweeps")
+        self.sweeps.TOP = self.top
+        self.sweeps.SWEEPS = (
+            self.sweeps.Sweep("one", ("./runner {other}", "./runner"), ("other",), ("given",)),
+            self.sweeps.Sweep("two", (f"{sys.executable} tests.py",), (), ("tests.py",)),
+        )
+        self.write("runner", SWEEP.format(python=sys.executable))
+        (self.top / "runner").chmod(0o755)
+        self.write("given", "7")
+        self.write_tests("2")
+        self.write("crates/other/out/other", "a program")
+        self.enterContext(contextlib.redirect_stdout(io.StringIO()))
+
+    def write_tests(self, expected: str) -> None:
+        """Tests of which one is that 1 + 1 is this."""
+        test = f"    def test_it(self):\n        self.assertEqual(1 + 1, {expected})\n"
+        head = "import unittest\nclass Test(unittest.TestCase):\n"
+        self.write("tests.py", f"{head}{test}unittest.main()\n")
+
+    def rows(self) -> dict[str, int]:
+        """The rows, and how many runs passed."""
+        return {row.sweep: row.passed for row in self.sweeps.read_rows().values()}
+
+    def assert_stopped(self, said: str, names: tuple[str, ...] = ()) -> None:
+        """A run is stopped, and so is a release."""
+        with self.assertRaisesRegex(self.sweeps.Stopped, said):
+            self.sweeps.run_all([*names])
+        with self.assertRaisesRegex(self.sweeps.Stopped, "has no row of the files as they are"):
+            self.sweeps.check()
+
+    def test_a_row_for_each(self) -> None:
+        with self.assertRaisesRegex(self.sweeps.Stopped, "for one two: `make sweeps` runs these"):
+            self.sweeps.check()
+        self.assertEqual(self.sweeps.run_all([]), 0)
+        self.assertEqual(self.rows(), {"one": 14, "two": 1})
+        self.assertEqual(self.sweeps.check(), 0)
+        # Nothing is run again, not even a runner that would fail.
+        self.write("runner", "no program")
+        self.assertEqual(self.sweeps.run_all([]), 0)
+
+    def test_what_changed_since(self) -> None:
+        self.sweeps.run_all([])
+        for name in ("given", "crates/other/src/lib.rt", "crates/low/specs/A.antt", "crates.txt"):
+            before = (self.top / name).read_text() if (self.top / name).exists() else ""
+            self.write(name, "8" if name == "given" else before.replace("low  ", "low ") + "\n")
+            if name == "crates.txt":
+                self.write(name, LISTED.replace("other: low", "other: low middle"))
+            with self.assertRaisesRegex(self.sweeps.Stopped, "for one: "):
+                self.sweeps.check()
+            self.sweeps.run_all([])
+            self.assertEqual(self.sweeps.check(), 0)
+        # A crate that it does not use.
+        self.write("crates/the_program/src/lib.rt", "other\n")
+        self.assertEqual(self.sweeps.check(), 0)
+
+    def test_what_fails_has_no_row(self) -> None:
+        self.sweeps.run_all([])
+        self.write("given", "wrong")
+        self.assert_stopped("not all passed, or files changed, in one")
+        self.assertEqual(self.rows(), {"two": 1})
+        self.write("given", "0")
+        self.assert_stopped("not all passed")
+        self.write("given", "7")
+        self.write_tests("3")
+        self.assert_stopped("not all passed, or files changed, in two")
+        self.assertEqual(self.rows(), {"one": 14})
+
+    def test_what_fails_after_it_passed(self) -> None:
+        self.sweeps.run_all([])
+        self.write("runner", "#!/bin/sh\nexit 1\n")
+        self.assert_stopped("in one", ("one",))
+        self.assertEqual(self.rows(), {"two": 1})
+
+    def test_files_that_change_meanwhile(self) -> None:
+        self.write("runner", "#!/bin/sh\nprintf 9 >> given\necho 3 passed, 0 failed\n")
+        self.assert_stopped("in one")
+
+    def test_what_is_not_there(self) -> None:
+        (self.top / "crates/other/out/other").unlink()
+        self.assert_stopped("there is no crates/other/out/other")
+        (self.top / "given").unlink()
+        with self.assertRaisesRegex(self.sweeps.Stopped, "one: there is no given"):
+            self.sweeps.sources_of(self.sweeps.SWEEPS[0])
+
+    def test_a_table_that_is_none(self) -> None:
+        self.write("release/SWEEPS", "sweep\tother\none\t1\n")
+        with self.assertRaisesRegex(self.sweeps.Stopped, "is no table of sweeps"):
+            self.sweeps.check()
+
+    def test_wrong_arguments(self) -> None:
+        status, _, error = self.run_program("release/sweeps", "three")
+        self.assertEqual(status, os.EX_USAGE)
+        self.assertIn("there is no sweep three", error)
+
+
+class SweepsHere(unittest.TestCase):
+    """The sweeps of this repository."""
+
+    def test_they_are_those_of_the_makefile(self) -> None:
+        sweeps = script(HERE / "sweeps")
+        text = (HERE.parent / "Makefile").read_text()
+        names = {"program": "qaudit", "program_why": "qaudit_why"}
+        names |= {"program_of_logs": "qlog_to_trace", "program_by_one_byte": "one_byte"}
+        for name, program in names.items():
+            text = text.replace(f"$({name})", f"{{{program}}}")
+        thinned = re.findall(r"^\t(.* \$\(every\) .*)$", text, re.MULTILINE)
+        made = [command.replace("$(every) ", "").split() for command in thinned]
+        listed = [command.split() for it in sweeps.SWEEPS for command in it.commands]
+        self.assertEqual(made, [it for it in listed if it[0] != "python3"])
+        tests = re.search(r"^release_tests := (.*)$", text, re.MULTILINE)
+        named = {it.name for it in sweeps.SWEEPS if it.name.startswith("test_")}
+        self.assertEqual(set(tests[1].split()) if tests else None, named)
+
+    def test_their_files_are_there(self) -> None:
+        sweeps = script(HERE / "sweeps")
+        for sweep in sweeps.SWEEPS:
+            self.assertGreater(len(sweeps.files_of(sweep)), 3, sweep.name)
+            self.assertNotIn(HERE / "SWEEPS", sweeps.files_of(sweep))
+
+
+class Timed(unittest.TestCase):
+    """How long a part of a command takes."""
+
+    def test_parts(self) -> None:
+        top = new_folder(self)
+        file, environment = top / "parts", {**os.environ, "QAUDIT_MINUTES": str(top / "parts")}
+        for words, status in (("exit 0", 0), ("exit 3", 3), ("kill -9 $$", 137)):
+            command = [sys.executable, str(HERE / "timed"), "pages", "sh", "-c", words]
+            ended = subprocess.run(command, env=environment, check=False)
+            self.assertEqual(ended.returncode, status)
+        line = r"pages \d+\.\d{3} \d+\.\d{3}\n"
+        self.assertRegex(file.read_text(), f"^({line}){{3}}$")
+        command = [sys.executable, str(HERE / "timed"), "pages"]
+        ended = subprocess.run(command, capture_output=True, check=False)
+        self.assertEqual(ended.returncode, os.EX_USAGE)
+
+    def test_no_file(self) -> None:
+        command = [sys.executable, str(HERE / "timed"), "pages", "true"]
+        environment = {key: it for key, it in os.environ.items() if key != "QAUDIT_MINUTES"}
+        subprocess.run(command, env=environment, check=True)
 
 
 class Minutes(unittest.TestCase):
