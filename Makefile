@@ -30,7 +30,7 @@ library_shared := bin/libqaudit.so
 library_counted := bin/libqaudit-counted.a
 examples := examples/ten-packets.trace examples/eleven-packets.trace
 # Checks of pages and sources, of a few seconds each.
-checks := links made_up contracts crates words wrong
+checks := links made_up contracts crates words wrong minutes
 # The tests of the programs of conformance/, which mostly wait for one another's processes.
 runner_tests := test_run test_trials test_allowed test_mutations test_rows test_departures test_simulate test_links test_made_up \
 	test_contracts test_crates test_unproved test_words test_commands test_lost_lines test_surroundings test_terminals
@@ -290,6 +290,10 @@ words:
 # docs/wrong-definitions.md must have the counts of what was tried.
 wrong:
 	conformance/wrong
+
+# README.md must have the minutes of `make test` that docs/proofs.md has.
+minutes:
+	release/minutes --check
 
 # The commands in the pages must run, those that can without a proof and without a network.
 commands:

@@ -755,6 +755,35 @@ class SweepsHere(unittest.TestCase):
             self.assertNotIn(HERE / "SWEEPS", sweeps.files_of(sweep))
 
 
+class Ci(unittest.TestCase):
+    """What a server that tests this repository runs."""
+
+    def run_it(self, apt: str) -> tuple[int, str]:
+        """Runs it with this in the place of `apt-get`, and a `make` that says what it is asked."""
+        top = new_folder(self)
+        shutil.copytree(HERE.parent / ".ci", top / ".ci")
+        bodies = {"apt-get": apt, "make": 'echo "make $@"', "timeout": 'shift; "$@"'}
+        for name, body in bodies.items():
+            (top / name).write_text(f"#!/bin/sh\n{body}\n")
+            (top / name).chmod(0o755)
+        command = ["/bin/sh", str(top / ".ci/run")]
+        path = {"PATH": f"{top}:/bin"} if not shutil.which("chromedriver", path="/bin") else {}
+        ended = subprocess.run(command, env=path, capture_output=True, text=True, check=False)
+        return ended.returncode, ended.stdout
+
+    def test_it_waits_three_minutes_at_most(self) -> None:
+        text = (HERE.parent / ".ci/run").read_text()
+        limits = [int(seconds) for seconds in re.findall(r"timeout (\d+) apt-get", text)]
+        self.assertEqual(len(limits), len(re.findall(r"apt-get --", text)))
+        self.assertLessEqual(sum(limits), 180)
+
+    @unittest.skipIf(shutil.which("chromedriver", path="/bin"), "there is a browser")
+    def test_without_a_browser(self) -> None:
+        said = "no browser and no valgrind within three minutes: the tests that want them are left"
+        self.assertEqual(self.run_it("exit 1"), (0, f"{said} out\nmake test\n"))
+        self.assertEqual(self.run_it('echo "$@"'), (0, "make test\n"))
+
+
 class Timed(unittest.TestCase):
     """How long a part of a command takes."""
 
@@ -785,10 +814,11 @@ class Minutes(unittest.TestCase):
 
     def test_rows(self) -> None:
         made = self.minutes.Measured("build", 1475, 3600, 4, 0.25, "abcd")
-        page = self.minutes.with_row(PAGE, made)
+        page = self.minutes.with_rows(PAGE, [made])
         self.assertIn("| `make build` | 24:35 | 60:00 | 4 | 0.2 | ", page)
-        page = self.minutes.with_row(page, self.minutes.Measured("run", 44, 61, 4, 0, "abcd"))
-        page = self.minutes.with_row(page, self.minutes.Measured("build", 59.6, 70, 1, 0, "abce"))
+        page = self.minutes.with_rows(page, [self.minutes.Measured("run", 44, 61, 4, 0, "abcd")])
+        again = self.minutes.Measured("build", 59.6, 70, 1, 0, "abce")
+        page = self.minutes.with_rows(page, [again])
         rows = [line for line in page.splitlines() if line.startswith("| `")]
         starts = ["| `make run` | 0:44 |", "| `make build` | 1:00"]
         self.assertEqual([row[:21] for row in rows], starts)
@@ -798,6 +828,56 @@ class Minutes(unittest.TestCase):
         self.assertIn(" with 1 processor", self.minutes.said_of("build", page))
         wanted = "how long it takes was not measured"
         self.assertEqual(self.minutes.said_of("quick", page), wanted)
+
+    def test_parts(self) -> None:
+        file = new_folder(self) / "parts"
+        whole = self.minutes.Measured("test", 3600, 9000, 4, 0.25, "abcd")
+        self.assertEqual(self.minutes.parts_in(file, whole), [])
+        lines = ("pages 61.4 90", "python 9.5 8", "other 5 5", "conformance 300 600")
+        file.write_text("".join(f"{line}\n" for line in (*lines, "python 30 30")))
+        parts = self.minutes.parts_in(file, whole)
+        page = self.minutes.with_rows(PAGE, [whole, *parts])
+        page = self.minutes.with_rows(page, [self.minutes.Measured("run", 44, 61, 4, 0, "abcd")])
+        rows = [line.split("| 4 |")[0] for line in page.splitlines() if line.startswith("| `")]
+        wanted = [
+            "| `make run` | 0:44 | 1:01 ",
+            "| `make test` | 60:00 | 150:00 ",
+            "| `make test`, Python | 0:40 | 0:38 ",
+            "| `make test`, conformance | 5:00 | 10:00 ",
+            "| `make test`, pages | 1:01 | 1:30 ",
+        ]
+        self.assertEqual(rows, wanted)
+        self.assertIn("about 60 minutes, as measured on ", self.minutes.said_of("test", page))
+        # Measured again, it has the parts that it has then.
+        page = self.minutes.with_rows(page, [whole, parts[1]])
+        self.assertEqual(page.count("`make test`"), 2)
+        self.assertEqual(page.count("`make run`"), 1)
+
+    def test_minutes_in_the_readme(self) -> None:
+        top = new_folder(self)
+        self.minutes.TOP = top
+        (top / "docs").mkdir()
+        begin, end = self.minutes.BEGIN_README, self.minutes.END_README
+        (top / "README.md").write_text(f"Before {begin}{end}. After.\n")
+        (top / "docs/proofs.md").write_text(PAGE)
+        with self.assertRaisesRegex(Exception, "has no row of `make test`"):
+            self.minutes.check()
+        page = self.minutes.with_rows(PAGE, [self.minutes.Measured("test", 3600, 1, 4, 0, "abcd")])
+        (top / "docs/proofs.md").write_text(page)
+        with self.assertRaisesRegex(Exception, "README.md has other minutes of `make test` than"):
+            self.minutes.check()
+        readme = self.minutes.with_minutes((top / "README.md").read_text(), page)
+        self.assertRegex(readme, rf"^Before {begin}60 minutes{end}\. After\.\n$")
+        (top / "README.md").write_text(readme)
+        self.assertEqual(self.minutes.check(), 0)
+        with self.assertRaisesRegex(Exception, "has no place for the minutes"):
+            self.minutes.with_minutes("Before.\n", page)
+
+    def test_wrong_arguments(self) -> None:
+        for words in ("", "other", "--check test", "--check --say"):
+            command = [sys.executable, str(HERE / "minutes"), *words.split()]
+            ended = subprocess.run(command, capture_output=True, check=False)
+            self.assertEqual(ended.returncode, os.EX_USAGE, words)
 
     def test_the_gate_from_nothing(self) -> None:
         self.assertEqual(self.minutes.gate("rattle-kit-13b logic 1"), ["rt", "ci"])
