@@ -702,6 +702,15 @@ class Sweeps(Repository):
         self.assert_stopped("not all passed, or files changed, in two")
         self.assertEqual(self.rows(), {"one": 14})
 
+    def test_what_is_left_out_has_not_passed(self) -> None:
+        self.write_tests('self.skipTest("no tool")')
+        self.assert_stopped("not all passed, or files changed, in two")
+        text = (self.top / "tests.py").read_text()
+        more = "    def test_more(self):\n        pass\nunittest.main()"
+        self.write("tests.py", text.replace("unittest.main()", more))
+        self.assertEqual(self.sweeps.run_all([]), 0)
+        self.assertEqual(self.rows(), {"one": 14, "two": 1})
+
     def test_what_fails_after_it_passed(self) -> None:
         self.sweeps.run_all([])
         self.write("runner", "#!/bin/sh\nexit 1\n")
