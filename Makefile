@@ -141,7 +141,7 @@ test: test_first
 		echo '$(library) is not built, so what C is handed is not tried: `make test_library` builds it first'; fi
 
 test_first:
-	@echo 'make test runs the checks, proves all crates and tries twelve must-fail edits, with the tests in Python beside that;'
+	@echo 'make test runs the checks, proves all crates and tries the must-fail edits of the gate, with the tests in Python beside that;'
 	@echo 'then it runs the programs over conformance/, and beside them the tests of the pages:'
 	@release/minutes --say test
 	release/timed python $(MAKE) --no-print-directory $(checks)
