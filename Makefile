@@ -15,14 +15,11 @@ built_logs := bin/qlog-to-trace
 program := crates/qaudit/out/qaudit
 # The program that says why, and the converter of logs, likewise.
 program_why := crates/qaudit_why/out/qaudit_why
-# The same audit by a reader and a writer that move one byte a call, a test of it.
+# A test of the audit by a reader and a writer that move one byte a call; with an argument of the reader of lines by itself,
+# or of each call over a trace, to be run with each allocation refused.
 program_by_one_byte := crates/one_byte/out/one_byte
-# The reader of lines by itself, a test of it.
-program_of_lines := crates/lines/out/lines
 # The converter of logs, which is compared with the reference in Python.
 program_of_logs := crates/qlog_to_trace/out/qlog_to_trace
-# Each call over a trace, to be run with each allocation refused.
-program_without_memory := crates/without_memory/out/without_memory
 # The library for C: what `rt lib` makes of its crate, with the heap of the kit, which stands over malloc.
 library := bin/libqaudit.a
 library_shared := bin/libqaudit.so
@@ -78,7 +75,7 @@ conformance := conformance-cuts conformance-failing conformance-refusals conform
 # What is handed to the library for C, in each language.
 bindings := conformance-library conformance-recipes bindings-rust bindings-go bindings-python
 
-.PHONY: deb help run build quick lib one_byte lines test test_first test_python test_conformance test_pages test_library gate conformance \
+.PHONY: deb help run build quick lib one_byte test test_first test_python test_conformance test_pages test_library gate conformance \
 	$(bindings) $(conformance) $(checks) commands unproved $(runner_tests) $(release_tests) test_qlog test_netlog fuzz fuzz_library \
 	test_captures test_page $(tests_of_pages) pictures lint edits tried sweeps sweeps_over_the_gate swept bench install dist clean
 
@@ -128,10 +125,7 @@ $(library_shared): $(library)
 	$(CC) -shared -o $@ -Wl,--whole-archive $(library) -Wl,--no-whole-archive
 
 one_byte:
-	@cd crates/one_byte && rt run < stdin > /dev/null
-
-lines:
-	@cd crates/lines && rt run < stdin > /dev/null
+	@cd crates/one_byte && rt run -- calls < stdin > /dev/null
 
 # What takes seconds comes first, so that a wrong page costs no hour. Tests that need no program of ours run beside the gate, one after
 # another, and what needs one after it, side by side. `release/timed` says how long each part takes, if it is asked.
@@ -212,7 +206,7 @@ conformance-run:
 	conformance/run --traces $(program_by_one_byte)
 	conformance/run --traces $(program) conformance/real
 	python3 conformance/lines/make.py --check
-	conformance/run --lines $(program_of_lines)
+	conformance/run --lines $(program_by_one_byte)
 
 conformance-reasons:
 	conformance/reasons $(program_why)
@@ -235,7 +229,7 @@ conformance-side-by-side:
 	conformance/side_by_side $(program)
 
 conformance-memory:
-	conformance/memory $(program_without_memory)
+	conformance/memory $(program_by_one_byte)
 
 # Both converters, over the real logs here and over some hundred that nobody would write.
 conformance-converted:

@@ -1,23 +1,18 @@
-//! A test of the line format: reads lines on standard input, and writes to standard output what
-//! each says.
+//! What lines say.
 //!
 //! The answer to a line is the text that `write_line` gives for it, and to a faulty line its fault
 //! as a report has it, each ended by LF. A line that is too long is answered so, and is the last.
-//! The lines of the conformance corpus are run through it. It ignores its arguments. It ends with
-//! status 0, or with 3 and a line on standard error where a stream fails or it is out of memory.
-#![tactic(auto)]
 
 use qa_trace::{Fault, LineFault, SplitFault, Splitter, read_line, write_line};
 use std::alloc::{AllocError, Global};
 use std::fmt::Display;
 use std::io;
 use std::io::{BufWriter, ErrorKind, Read, Write};
-use std::process::ExitCode;
 use thiserror::Error;
 
 /// Why not every line was answered.
 #[derive(Clone, Copy, Debug, Error)]
-enum Failure {
+pub(crate) enum Failure {
     #[error("read fault: standard input")]
     Read,
     #[error("write fault")]
@@ -41,19 +36,8 @@ impl From<io::Error> for Failure {
     }
 }
 
-fn main(rt: HostRuntime) -> ExitCode {
-    match answer_input(rt.alloc(), &mut rt.stdin(), rt.stdout()) {
-        Ok(()) => ExitCode::from(0),
-        Err(failure) => {
-            // A failure of standard error changes nothing.
-            let _ = eprintln!(rt; "lines: {failure}");
-            ExitCode::from(3)
-        }
-    }
-}
-
 /// Answers each line of the input.
-fn answer_input<R: Read, W: Write + Drop>(
+pub(crate) fn answer_input<R: Read, W: Write + Drop>(
     alloc: Global,
     reader: &mut R,
     writer: W,

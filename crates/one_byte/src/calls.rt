@@ -1,11 +1,9 @@
-//! A test of calls that are out of memory: makes each over the trace on standard input, and writes
-//! what it answers, a line for each call.
+//! Calls that are out of memory: makes each over a trace, and writes what it answers, a line for
+//! each call.
 //!
 //! It is run with one of its allocations refused, each in turn, so that there is memory again
 //! behind it. A splitter, a checker and a ledger that were out of memory are then asked again. What
-//! is written takes no memory. It ignores its arguments. It ends with status 0, or with 3 where a
-//! stream fails or the input itself takes more memory than there is.
-#![tactic(auto)]
+//! is written takes no memory.
 
 use qa_base::Totals;
 use qa_base::limits::MAX_LINES;
@@ -17,7 +15,6 @@ use qa_trace::{Event, Header, Line, LineFault, SplitFault, Splitter, read_line, 
 use std::alloc::{AllocError, Global};
 use std::io::{Read, Write};
 use std::marker::Model;
-use std::process::ExitCode;
 
 /// What is written, a line for each answer, up to the first write that fails.
 #[derive(Drop)]
@@ -41,26 +38,18 @@ impl<W: Write> Answers<W> {
     }
 }
 
-fn main(rt: HostRuntime) -> ExitCode {
+/// Makes all calls over the input. Answers whether it could be read, and all was written.
+pub(crate) fn tell_all<R: Read, W: Write + Drop>(alloc: Global, reader: &mut R, writer: W) -> bool {
     let mut answers = Answers {
-        writer: rt.stdout(),
+        writer,
         is_written: true,
     };
-    let is_read = tell_all(rt.alloc(), &mut rt.stdin(), &mut answers);
-    if is_read && answers.is_written {
-        return ExitCode::from(0);
-    }
-    ExitCode::from(3)
-}
-
-/// Makes all calls over the input, if it can be read.
-fn tell_all<R: Read, W: Write>(alloc: Global, reader: &mut R, answers: &mut Answers<W>) -> bool {
     let mut input = Vec::new(alloc);
-    let is_read = reader.read_to_end(&mut input).is_ok();
-    if is_read {
-        tell_calls(alloc, &input, answers);
+    if reader.read_to_end(&mut input).is_err() {
+        return false;
     }
-    is_read
+    tell_calls(alloc, &input, &mut answers);
+    answers.is_written
 }
 
 /// Makes all calls over the input.
