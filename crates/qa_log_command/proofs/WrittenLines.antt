@@ -1,21 +1,23 @@
 -- Lines that are written one after another, and what a failure leaves of them.
-use Rattle.std.proofs.Common.{◌≡◌, ◌∙◌, ◌⊎◌, inl, inr, ℕ, Bool, true, false, List, [], ◌∷◌, ◌++◌, Option, Result, Ok, Err, refl, sym, ap, append-nil}
+use Rattle.std.proofs.Common.{◌≡◌, ◌∙◌, ◌⊎◌, inl, inr, ℕ, Bool, true, false, List, [], ◌∷◌, ◌++◌, Option, Result, Ok, Err, refl, sym, ap, subst, append-nil}
 use Rattle.std.specs.Prelude.{IsErrAnd}
 use Rattle.std.proofs.lemmas.Grind.{flat_map-append}
 use Rattle.std.proofs.lemmas.List.{map-append}
-use Rattle.std.specs.List.{AllByRecursion}
+use Rattle.std.specs.List.{AllByRecursion, concat}
 use Rattle.std.proofs.KnownBytes.{Appends-nil, Appends-trans}
 use Rattle.qa_check.proofs.Writing.{begins_behind}
 use Rattle.qa_check.specs.Failures.{failures_after}
 use Rattle.qa_commands.specs.Writes.{Writes}
 use Rattle.qa_convert.specs.OwnKeys.{AreEventLines, IsHeaderLine, IsWritten, IsWrittenEvent, Noted, noted, texts_of}
 use Rattle.qa_format.specs.format.Lines.{ended, with_lf}
-use Rattle.qa_log_command.specs.Failing.{ending_of, fails_to_write, is_write}
+use Rattle.qa_log_lines.proofs.Going.{concat_one}
+use Rattle.qa_log_command.specs.Failing.{ending_of, ending_of_log, fails_to_write, is_write}
 use Rattle.qa_log_command.specs.Written.{AreLines, Leaves, Stream, WritesLines}
 use Rattle.qa_log_command.specs.declared.ending.Ending.{Ending}
 use Rattle.qa_log_command.specs.declared.ending.Ending.TheVariants as endings
 use Rattle.qa_log_command.specs.declared.failure.Failure.{Failure}
 use Rattle.qa_log_command.specs.declared.failure.Failure.TheVariants.{Log, Write}
+use Rattle.qa_log_lines.specs.declared.failure.LogFailure.{LogFailure}
 use Rattle.qa_log_lines.specs.declared.failure.LogFailure.TheVariants as logs
 
 -- ---- lines
@@ -81,17 +83,25 @@ pub fails_as : {A : Type 0} (failed : Bool) (r : Result A Failure) → IsErrAnd 
 fails_as failed (Ok a) is = absurd is
 fails_as failed (Err f) is = is
 
+-- a failure that is handed on as it is
+pub fails_like : {A : Type 0} (r : Result A Failure) (failure : Failure) → IsErrAnd r (λ f. f ≡ failure) → fails_to_write r ≡ is_write failure
+fails_like (Ok a) failure same = absurd same
+fails_like (Err f) failure same = ap is_write same
+
 -- ---- how the program ends
 
 failed_leaves : (failed : Bool) (old new : Stream) → WritesLines failed old new → Leaves endings.Failed old new
 failed_leaves failed old new (text, lines, wrote) = (failed, (text, wrote))
 
+by_log : (failure : LogFailure) (old new : Stream) → WritesLines false old new → Leaves (ending_of_log failure) old new
+by_log (logs.Open e) old new wrote = failed_leaves false old new wrote
+by_log (logs.Read e) old new wrote = failed_leaves false old new wrote
+by_log logs.TooLong old new wrote = failed_leaves false old new wrote
+by_log (logs.Log fault) old new wrote = wrote
+by_log logs.OutOfMemory old new wrote = failed_leaves false old new wrote
+
 by_failure : (failure : Failure) (old new : Stream) → WritesLines (is_write failure) old new → Leaves (ending_of failure) old new
-by_failure (Log (logs.Open e, n)) old new wrote = failed_leaves false old new wrote
-by_failure (Log (logs.Read e, n)) old new wrote = failed_leaves false old new wrote
-by_failure (Log (logs.TooLong, n)) old new wrote = failed_leaves false old new wrote
-by_failure (Log (logs.Log fault, n)) old new wrote = wrote
-by_failure (Log (logs.OutOfMemory, n)) old new wrote = failed_leaves false old new wrote
+by_failure (Log interruption) old new wrote = by_log interruption.failure old new wrote
 by_failure (Write e) old new wrote = failed_leaves true old new wrote
 
 -- it stopped by this failure, which decides how it ends, or for want of memory to say so

@@ -57,8 +57,11 @@ fn write_lines<F: Read + Drop, O: Sink>(
         let advanced = lines.advance();
         give(lines, output)?;
         match advanced {
-            Ok(true) => {}
-            Ok(false) => return Ok(()),
+            Ok(has_more) => {
+                if !has_more {
+                    return Ok(());
+                }
+            }
             Err(failure) => return Err(Failure::Log(lines.interrupted_by(failure))),
         }
     }

@@ -16,5 +16,5 @@ pub returns-in-Err-clause-written : goal.returns-in-Err-clause-written
 returns-in-Err-clause-written g c =
     let held = g.O.Sink.held in
     let failures = g.O.Sink.write_failures in
-    stopped_leaves c.in-Err.stopped.failure c.tell_failure.result (held c.args.streams.now.output, failures c.args.streams.now.output)
+    stopped_leaves c.in-Err.failure c.tell_failure.result (held c.args.streams.now.output, failures c.args.streams.now.output)
     (held c.convert.new.output, failures c.convert.new.output) c.tell_failure.ensures c.in-Err.ensures.written
