@@ -5,9 +5,9 @@ departures from the rules of conduct, as departures.py finds them:
 
 - `events`, how many events were followed, where there are departures;
 - `departures`, a list of an object for each kind, in the order of the table of departures.py:
-  `rule`, `name` and, of a metric, `field`; `count`; `first` and `last`, the lines; the greatest
-  amount, as `greatest_bytes`, `greatest_us` or `greatest_ns`, where the kind has one; and `lines`,
-  the lines of the first thousand, in order;
+  `rule`, `name` and, of a metric, `field`; `requirement` and `section` (sources.py); `count`;
+  `first` and `last`, the lines; the greatest amount, as `greatest_bytes`, `greatest_us` or
+  `greatest_ns`, where the kind has one; and `lines`, the lines of the first thousand, in order;
 - `end`, where there are departures, how the trace ends past them: the members that objects.py has
   for such an end, without `file`.
 

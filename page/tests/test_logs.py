@@ -606,7 +606,7 @@ class Tables(InFolder):
         at = text.index('{"time": 1')
         told = self.run_command("--sarif", "sarif.json", "--annotate")
         self.assertEqual(self.results()["bad"]["place"], f"byte {at} of the log")
-        self.assertIn("error file=logs/bad.sqlog,title=qaudit V6 number-not-higher::", told)
+        self.assertIn("error file=logs/bad.sqlog,title=qaudit V6 number-not-higher (MUST)::", told)
         self.assertIn(f"(Line 3 of the trace that this log gives: byte {at} of the log.)", told)
         said = json.loads((self.folder / "sarif.json").read_text())["runs"][0]["results"][0]
         region = said["locations"][0]["physicalLocation"]["region"]
