@@ -32,7 +32,7 @@ examples := examples/ten-packets.trace examples/eleven-packets.trace
 # The tests of the programs of conformance/, which mostly wait for one another's processes.
 runner_tests := test_run test_trials test_allowed test_mutations test_rows test_departures test_simulate test_links test_made_up \
 	test_contracts test_crates test_edits test_unproved test_words test_commands test_lost_lines test_bindings test_recipes test_fuzz_library \
-	test_surroundings test_terminals
+	test_surroundings test_terminals test_converts
 # The tests of the pages in parts of about equal length, which can run side by side.
 tests_of_pages := test_page_in_browser test_page_opened test_page_without_browser
 in_browser := $(patsubst page/tests/%.py,tests.%,$(wildcard page/tests/test_browser_*.py))
@@ -42,7 +42,7 @@ tests_in_python := $(tests_of_pages) test_qlog test_netlog test_captures $(runne
 
 # All programs in Python, by the places where their names are unlike each other.
 python := $(addprefix conformance/,allocations contracts crates cuts failing fuzz_library large library links log_refusals made_up malicious memory mutations reasons recipes \
-	logs refusals run side_by_side simulate unproved words wrong commands) \
+	logs converts refusals run side_by_side simulate unproved words wrong commands) \
 	conformance/fuzz/instrument conformance/lines/make.py $(wildcard conformance/*.py)
 python_of_fuzz := conformance/fuzz/run
 # The pages, and what measures and tests them.
@@ -63,7 +63,7 @@ python_of_bench := $(addprefix bench/,files instructions library logs peers run 
 conformance := conformance-cuts conformance-failing conformance-refusals conformance-simulate conformance-mutations \
 	conformance-malicious conformance-large conformance-run conformance-reasons conformance-rows conformance-departures \
 	conformance-allocations conformance-memory conformance-side-by-side conformance-converted conformance-logs \
-	conformance-log-refusals
+	conformance-log-refusals conformance-converts
 
 # What is handed to the library for C, in each language.
 bindings := conformance-library conformance-recipes bindings-rust bindings-go bindings-python
@@ -217,6 +217,10 @@ conformance-memory:
 # Both converters, over the real logs here and over some hundred that nobody would write.
 conformance-converted:
 	conformance/qlog/compare --native $(program_of_logs) --mutations 600
+
+# The converter over logs whose traces were written by hand.
+conformance-converts:
+	conformance/converts $(program_of_logs)
 
 # `qaudit-why` over logs, beside the converter.
 conformance-logs:
