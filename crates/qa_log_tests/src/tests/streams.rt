@@ -1,11 +1,28 @@
 //! Streams that fail, and a reader of one byte a call.
 ghost use Rattle.std.specs.Prelude.{◌≤◌, IfOk};
 
-use crate::tests::running::{LOG, TRACE, arguments_of};
+use qa_arguments::ArgumentsFault;
 use qa_check::Metered;
-use qa_log_command::{Streams, command};
+use qa_log_command::{Streams, command, refuse};
+use std::alloc::{AllocError, Global};
 use std::io;
 use std::io::{ErrorKind, Read, Write};
+
+/// A log of one packet.
+const LOG: &str =
+    "{\"qlog_version\":\"0.3\",\"qlog_format\":\"NDJSON\",\"trace\":{\"vantage_point\":{\"type\":\"client\"}}}\n{\"time\":0,\"name\":\"recovery:parameters_set\",\"data\":{\"max_datagram_size\":1200}}\n{\"time\":0,\"name\":\"transport:packet_sent\",\"data\":{\"header\":{\"packet_type\":\"1RTT\",\"packet_number\":0},\"raw\":{\"length\":1200},\"frames\":[{\"frame_type\":\"ping\"}]}}\n";
+
+/// Its trace in version 1 of the format.
+const TRACE: &str =
+    "{\"event\":\"header\",\"initial_rtt\":333000,\"initial_window\":12000,\"max_ack_delay\":25000,\"max_datagram_size\":1200,\"role\":\"client\",\"version\":1,\"x_dialect\":\"generic\",\"x_guess\":[\"max_ack_delay: 25 ms, for the peer's is not logged\"]}\n{\"eliciting\":true,\"event\":\"sent\",\"in_flight\":true,\"leave\":\"window\",\"number\":0,\"size\":1200,\"space\":\"app\",\"time\":0}\n";
+
+fn arguments_of(alloc: Global, words: &[&str]) -> Result<Vec<String>, AllocError> {
+    let mut arguments = Vec::new(alloc);
+    for word in words {
+        arguments.push(String::from_str(alloc, word)?)?;
+    }
+    Ok(arguments)
+}
 
 /// A reader or a writer over memory: it moves a byte a call, and fails at the call of that number,
 /// counted from 0, and at each after it.
@@ -143,4 +160,19 @@ fn a_pipe_is_closed(rt: HostRuntime) {
 fn a_message_fails(rt: HostRuntime) {
     let faults = Faults { error: 4, ..NONE };
     assert!(rt; ends_so(&rt, faults, 0, (TRACE, "qlog")));
+}
+
+/// How the program ends if its arguments cannot be read.
+fn refused(alloc: Global, fault: ArgumentsFault, text: &str) -> Option<u8> {
+    let mut error = Metered::new(Vec::new(alloc));
+    let status = refuse(fault, &mut error);
+    (error.into_inner().as_slice() == text.as_bytes()).then_some(status)
+}
+
+#[test]
+fn arguments_cannot_be_read(rt: HostRuntime) {
+    let wrong = "qlog-to-trace: an argument is not UTF-8\n";
+    assert!(rt; refused(rt.alloc(), ArgumentsFault::Refused, wrong) == Some(64));
+    let memory = "qlog-to-trace: out of memory: arguments\n";
+    assert!(rt; refused(rt.alloc(), ArgumentsFault::OutOfMemory, memory) == Some(3));
 }
