@@ -15,34 +15,37 @@ built_logs := bin/qlog-to-trace
 program := crates/qaudit/out/qaudit
 # The program that says why, and the converter of logs, likewise.
 program_why := crates/qaudit_why/out/qaudit_why
-# The same audit by a reader and a writer that move one byte a call, a test of it.
+# A test of the audit by a reader and a writer that move one byte a call; with an argument of the reader of lines by itself,
+# or of each call over a trace, to be run with each allocation refused.
 program_by_one_byte := crates/one_byte/out/one_byte
-# The reader of lines by itself, a test of it.
-program_of_lines := crates/lines/out/lines
 # The converter of logs, which is compared with the reference in Python.
 program_of_logs := crates/qlog_to_trace/out/qlog_to_trace
-# Each call over a trace, to be run with each allocation refused.
-program_without_memory := crates/without_memory/out/without_memory
 # The library for C: what `rt lib` makes of its crate, with the heap of the kit, which stands over malloc.
 library := bin/libqaudit.a
 library_shared := bin/libqaudit.so
 # With counters, for libFuzzer.
 library_counted := bin/libqaudit-counted.a
 examples := examples/ten-packets.trace examples/eleven-packets.trace
+# Checks of pages and sources, of a few seconds each.
+checks := links made_up contracts crates words wrong levels rfc9002 minutes
 # The tests of the programs of conformance/, which mostly wait for one another's processes.
 runner_tests := test_run test_trials test_allowed test_mutations test_rows test_departures test_simulate test_links test_made_up \
-	test_contracts test_crates test_edits test_unproved test_words test_commands test_lost_lines test_bindings test_recipes test_fuzz_library \
-	test_surroundings test_terminals test_converts
+	test_contracts test_crates test_levels test_unproved test_words test_commands test_lost_lines test_rfc9002 test_surroundings \
+	test_terminals test_converts
+# Those of programs that run before a release, which `make sweeps` runs.
+release_tests := test_edits test_bindings test_recipes test_fuzz_library test_release
+# All that need no program of ours and no browser, but for the checks.
+tests_beside_the_gate := commands test_qlog $(runner_tests) test_netlog test_captures
 # The tests of the pages in parts of about equal length, which can run side by side.
 tests_of_pages := test_page_in_browser test_page_opened test_page_without_browser
 in_browser := $(patsubst page/tests/%.py,tests.%,$(wildcard page/tests/test_browser_*.py))
 without_browser := $(patsubst page/tests/%.py,tests.%,$(filter-out page/tests/test_browser%,$(wildcard page/tests/test_*.py)))
 # The tests and checks that need no proof, the longest first.
-tests_in_python := $(tests_of_pages) test_qlog test_netlog test_captures $(runner_tests) test_release links made_up contracts crates words wrong commands
+tests_in_python := $(tests_of_pages) $(tests_beside_the_gate) $(checks)
 
 # All programs in Python, by the places where their names are unlike each other.
-python := $(addprefix conformance/,allocations contracts crates cuts failing fuzz_library large library links log_refusals made_up malicious memory mutations reasons recipes \
-	logs converts refusals run side_by_side simulate unproved words wrong commands) \
+python := $(addprefix conformance/,allocations contracts crates cuts failing fuzz_library large levels library links log_refusals made_up malicious memory mutations reasons recipes \
+	logs converts refusals rfc9002 run side_by_side simulate unproved words wrong commands) \
 	conformance/fuzz/instrument conformance/lines/make.py $(wildcard conformance/*.py)
 python_of_fuzz := conformance/fuzz/run
 # The pages, and what measures and tests them.
@@ -52,13 +55,17 @@ python_of_qlog := $(addprefix conformance/qlog/,qlog-to-trace compare dialects f
 	$(wildcard conformance/qlog/qlog_to_trace/*.py conformance/qlog/tests/*.py)
 python_of_netlog := netlog/netlog-to-qlog $(wildcard netlog/netlog_to_qlog/*.py netlog/*.py)
 # captures/transfer.py runs where aioquic is, and is checked for style alone.
-python_of_captures := captures/audit.py captures/causes.py captures/lateness captures/logs.py captures/run captures/stacks.py captures/table captures/test_causes.py captures/test_delay.py captures/test_lateness.py captures/test_upload.py examples/delay.py examples/logger.py
-python_of_release := $(addprefix release/,archive edits jobs minutes prove unproved) $(wildcard release/*.py)
+python_of_captures := captures/aioquic_timers.py captures/audit.py captures/causes.py captures/lateness captures/logs.py captures/run captures/stacks.py captures/table captures/test_aioquic_timers.py captures/test_causes.py captures/test_delay.py captures/test_lateness.py captures/test_upload.py examples/delay.py examples/logger.py
+python_of_release := $(addprefix release/,archive edits jobs minutes prove sweeps timed unproved) $(wildcard release/*.py)
 python_of_bindings := $(wildcard bindings/python/*.py)
 # Checked for style alone, since they need pytest.
 python_of_recipes := $(wildcard examples/embedding/pytest/*.py)
 python_of_bench := $(addprefix bench/,files instructions library logs peers run trace) $(wildcard bench/*.py) bench/programs/read.py
 
+# How many jobs run side by side after the gate.
+jobs := $(shell nproc)
+# Of the sweeps, which try many places of each trace, each seventh place is tried; `make sweeps` tries all.
+every := --every 7
 # The programs of conformance/ over what the gate built, the longest first. None waits for another.
 conformance := conformance-cuts conformance-failing conformance-refusals conformance-simulate conformance-mutations \
 	conformance-malicious conformance-large conformance-run conformance-reasons conformance-rows conformance-departures \
@@ -68,8 +75,9 @@ conformance := conformance-cuts conformance-failing conformance-refusals conform
 # What is handed to the library for C, in each language.
 bindings := conformance-library conformance-recipes bindings-rust bindings-go bindings-python
 
-.PHONY: deb help run build quick lib one_byte lines test test_library gate conformance $(bindings) $(conformance) \
-	links made_up contracts crates words wrong commands unproved $(runner_tests) test_qlog test_netlog fuzz fuzz_library test_captures test_release test_page $(tests_of_pages) pictures lint edits tried bench install dist clean
+.PHONY: deb help run build quick lib one_byte test test_first test_python test_conformance test_pages test_library gate conformance \
+	$(bindings) $(conformance) $(checks) commands unproved $(runner_tests) $(release_tests) test_qlog test_netlog fuzz fuzz_library \
+	test_captures test_page $(tests_of_pages) pictures lint edits tried sweeps sweeps_over_the_gate swept bench install dist clean
 
 help:
 	@echo 'make run       audits $(examples)'
@@ -77,10 +85,11 @@ help:
 	@echo 'make build     proves the programs and leaves $(built), $(built_why) and $(built_logs)'
 	@echo 'make quick     runs the tests that need no proof, in a few minutes'
 	@echo 'make lib       proves and builds the library for C, $(library)'
-	@echo 'make test      runs the merge gate, and then the program over conformance/'
+	@echo 'make test      runs the checks, the merge gate, and then the programs over conformance/ and the tests of pages'
 	@echo 'make test_library  builds the library for C and runs it over conformance/, in each language that is there'
 	@echo 'make gate      runs the merge gate alone'
 	@echo 'make edits     tries the must-fail edits in edits/ of each crate that changed since, in up to an hour'
+	@echo 'make sweeps    runs in full what make test runs in part, and the tests of programs that a release is made with'
 	@echo 'make conformance runs the programs over conformance/ alone, once the gate has built them'
 	@echo 'make test_page runs the tests of qaudit-page and qaudit-matrix, those in a browser where one is there'
 	@echo 'make pictures  makes the pictures of docs, where a browser is there'
@@ -91,7 +100,7 @@ help:
 	@echo '               the library for C too, where `make lib` built it before'
 	@echo 'make install   builds it and installs it in $$(DESTDIR)$$(PREFIX), with its man page, completions and docs;'
 	@echo '               PREFIX is $(PREFIX)'
-	@echo 'make dist      builds it and packs dist/$(release).tar.gz, which needs no kit, after `make edits`'
+	@echo 'make dist      builds it and packs dist/$(release).tar.gz, which needs no kit, after `make edits` and `make sweeps`'
 	@echo 'make deb       makes a Debian package of that, dist/qaudit_*_amd64.deb'
 	@echo 'make clean     removes what was built'
 
@@ -116,23 +125,31 @@ $(library_shared): $(library)
 	$(CC) -shared -o $@ -Wl,--whole-archive $(library) -Wl,--no-whole-archive
 
 one_byte:
-	@cd crates/one_byte && rt run < stdin > /dev/null
+	@cd crates/one_byte && rt run -- calls < stdin > /dev/null
 
-lines:
-	@cd crates/lines && rt run < stdin > /dev/null
-
-# The tests of the runners and the checks of pages and sources need no program of ours, so they run beside the gate,
-# in its first minutes.
-test:
-	@echo 'make test proves all crates and tries their must-fail edits, and runs the tests in Python beside that;'
-	@echo 'then it runs the programs over conformance/, and last the tests of the pages:'
-	@release/minutes --say test
-	$(MAKE) --no-print-directory -j 2 gate links made_up contracts crates words wrong commands $(runner_tests) test_qlog test_netlog test_captures test_release
-	$(MAKE) --no-print-directory -j 4 --output-sync=target $(conformance)
-	QAUDIT_WHY='$(abspath $(program_why))' QLOG_TO_TRACE='$(abspath $(program_of_logs))' \
-		$(MAKE) --no-print-directory test_page
+# What takes seconds comes first, so that a wrong page costs no hour. Tests that need no program of ours run beside the gate, one after
+# another, and what needs one after it, side by side. `release/timed` says how long each part takes, if it is asked.
+test: test_first
+	$(MAKE) --no-print-directory -j 2 gate test_python
+	$(MAKE) --no-print-directory -j $(jobs) --output-sync=target test_conformance test_pages
 	if [ -f $(library) ]; then $(MAKE) --no-print-directory test_library; else \
 		echo '$(library) is not built, so what C is handed is not tried: `make test_library` builds it first'; fi
+
+test_first:
+	@echo 'make test runs the checks, proves all crates and tries the must-fail edits of the gate, with the tests in Python beside that;'
+	@echo 'then it runs the programs over conformance/, and beside them the tests of the pages:'
+	@release/minutes --say test
+	release/timed python $(MAKE) --no-print-directory $(checks)
+
+test_python:
+	release/timed python $(MAKE) --no-print-directory $(tests_beside_the_gate)
+
+test_conformance:
+	release/timed conformance $(MAKE) --no-print-directory $(conformance)
+
+test_pages:
+	QAUDIT_WHY='$(abspath $(program_why))' QLOG_TO_TRACE='$(abspath $(program_of_logs))' \
+		release/timed pages $(MAKE) --no-print-directory $(tests_of_pages)
 
 # For whoever changes a page or the converter, or has not proved a change yet.
 quick:
@@ -152,21 +169,21 @@ test_library: $(bindings)
 gate:
 	RT_JOBS=$$(release/jobs) rt ci
 
-conformance: $(conformance) links made_up contracts crates words wrong commands $(runner_tests) test_qlog test_netlog test_captures test_release
+conformance: $(conformance) $(checks) $(tests_beside_the_gate)
 
 conformance-cuts:
-	conformance/cuts $(program)
-	conformance/cuts --reasons $(program_why)
+	conformance/cuts $(every) $(program)
+	conformance/cuts $(every) --reasons $(program_why)
 
 conformance-failing:
-	conformance/failing $(program)
-	conformance/failing --traces $(program_by_one_byte)
-	conformance/failing --reasons $(program_why)
+	conformance/failing $(every) $(program)
+	conformance/failing $(every) --traces $(program_by_one_byte)
+	conformance/failing $(every) --reasons $(program_why)
 
 conformance-refusals:
-	conformance/refusals $(program)
-	conformance/refusals --traces $(program_by_one_byte)
-	conformance/refusals --reasons $(program_why)
+	conformance/refusals $(every) $(program)
+	conformance/refusals $(every) --traces $(program_by_one_byte)
+	conformance/refusals $(every) --reasons $(program_why)
 
 conformance-simulate:
 	conformance/simulate $(program) $(program_by_one_byte)
@@ -189,7 +206,7 @@ conformance-run:
 	conformance/run --traces $(program_by_one_byte)
 	conformance/run --traces $(program) conformance/real
 	python3 conformance/lines/make.py --check
-	conformance/run --lines $(program_of_lines)
+	conformance/run --lines $(program_by_one_byte)
 
 conformance-reasons:
 	conformance/reasons $(program_why)
@@ -212,7 +229,7 @@ conformance-side-by-side:
 	conformance/side_by_side $(program)
 
 conformance-memory:
-	conformance/memory $(program_without_memory)
+	conformance/memory $(program_by_one_byte)
 
 # Both converters, over the real logs here and over some hundred that nobody would write.
 conformance-converted:
@@ -227,7 +244,7 @@ conformance-logs:
 	conformance/logs $(program_why) $(program_of_logs)
 
 conformance-log-refusals:
-	conformance/log_refusals $(program_why) $(program_of_logs)
+	conformance/log_refusals $(every) $(program_why) $(program_of_logs)
 
 conformance-library: $(library)
 	conformance/library $(library)
@@ -273,6 +290,18 @@ words:
 wrong:
 	conformance/wrong
 
+# README.md must have the minutes of `make test` that docs/proofs.md has.
+minutes:
+	release/minutes --check
+
+# docs/why.md must have the levels of the rules as the definitions and conformance/sources.py have them.
+levels:
+	conformance/levels
+
+# docs/rfc9002.md must be as its table, and the definitions and traces that it names must be there.
+rfc9002:
+	conformance/rfc9002
+
 # The commands in the pages must run, those that can without a proof and without a network.
 commands:
 	conformance/commands
@@ -284,7 +313,17 @@ edits:
 tried:
 	release/edits --check
 
-$(runner_tests):
+# What a release wants tried in full, of each part that changed since.
+sweeps:
+	release/sweeps --check || $(MAKE) --no-print-directory sweeps_over_the_gate
+
+sweeps_over_the_gate: gate
+	release/sweeps
+
+swept:
+	release/sweeps --check
+
+$(runner_tests) $(filter-out test_release,$(release_tests)):
 	python3 conformance/$@.py
 
 # The reference of the converter of logs, over small logs and those of conformance/real, and the example of a logger.
@@ -309,6 +348,7 @@ $(library_counted): $(library) conformance/fuzz/instrument
 	conformance/fuzz/instrument --library $@
 
 test_captures:
+	python3 captures/test_aioquic_timers.py
 	python3 captures/test_causes.py
 	python3 captures/test_delay.py
 	python3 captures/test_lateness.py
@@ -374,7 +414,7 @@ install: build lib
 	release/pack $(built) $(built_why) $(built_logs) $(library) $(library_shared) bin/$(release)
 	bin/$(release)/install '$(DESTDIR)$(PREFIX)'
 
-dist: tried build lib
+dist: tried swept build lib
 	release/pack $(built) $(built_why) $(built_logs) $(library) $(library_shared) bin/$(release)
 	release/tarball bin/$(release) dist/$(release).tar.gz
 	@echo dist/$(release).tar.gz

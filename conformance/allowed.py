@@ -14,6 +14,7 @@ from amounts import bytes_text, in_bytes, time_text
 from caveats import is_guessed
 from constants import METRICS, METRICS_IN_BYTES, NANOSECONDS_IN_A_MICROSECOND, Rule
 from sender import Deadline, Event, Sender
+from sources import source_of
 
 Object = dict[str, object]
 
@@ -269,6 +270,7 @@ class Rest:
                 "rule": rule,
                 "name": name,
                 **{"field": it for it in values},
+                **source_of(what).members,
                 "by": KEYS[what],
                 f"limit_{unit}": limit,
                 "count": len(found),

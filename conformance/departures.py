@@ -24,6 +24,7 @@ from faults import fault_of
 from objects import Facts, Object, broken, owed_at_end, unit_of, unreadable
 from names import shown_name
 from sender import Event, Sender
+from sources import rule_of
 from why import (
     Verdict,
     accepted,
@@ -33,7 +34,6 @@ from why import (
     not_read,
     packets_due_of,
     refused_end,
-    rule_of,
     said_by,
     verdict_of,
     why,

@@ -17,6 +17,7 @@ from constants import (
 )
 from names import escaped_in_json
 from sender import Deadline, Event, Ranges, Sender
+from sources import rule_of, source_of
 from why import (
     OF_A_WINDOW,
     WANTED,
@@ -24,7 +25,6 @@ from why import (
     due_of,
     first_outside,
     packets_due_of,
-    rule_of,
     runs_of,
     said_by,
     verdict_of,
@@ -93,11 +93,11 @@ def owed_at_end(facts: "Facts") -> Object:
 
 
 def named(what: str) -> Object:
-    """A rule that a report names so, and its field where it has one."""
+    """A rule that a report names so, its field where it has one, and where it comes from."""
     rule, field = rule_of(what)
     number, name = rule.split(" ")
     found: Object = {"rule": number, "name": name}
-    return found | ({"field": field} if field else {})
+    return found | ({"field": field} if field else {}) | source_of(what).members
 
 
 def unit_of(header: Event) -> str:

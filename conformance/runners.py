@@ -7,7 +7,8 @@ import importlib.util
 import os
 import subprocess
 import sys
-from collections.abc import Callable, Iterable, Iterator
+import zlib
+from collections.abc import Callable, Container, Iterable, Iterator, Sequence
 from pathlib import Path
 from types import ModuleType
 from typing import NamedTuple, NoReturn
@@ -46,6 +47,14 @@ class Parser(argparse.ArgumentParser):
         text = "the program that is run"
         self.add_argument("program", metavar="PROGRAM", type=absolute, help=text)
 
+    def add_every(self) -> None:
+        """How far the places are from each other that are tried of many."""
+        text = (
+            "tries only each Nth place of each trace or log, with the first, the last, and those"
+            " around each LF; without it each place is tried"
+        )
+        self.add_argument("--every", metavar="N", type=at_least_one, default=1, help=text)
+
     def add_corpus(self) -> None:
         """The folder with the traces, which may be left out."""
         text = (
@@ -54,6 +63,14 @@ class Parser(argparse.ArgumentParser):
         self.add_argument(
             "corpus", metavar="CORPUS", type=Path, nargs="?", default=FOLDER, help=text
         )
+
+
+def at_least_one(text: str) -> int:
+    """A number that is not 0."""
+    number = int(text)
+    if number < 1:
+        raise ValueError
+    return number
 
 
 def absolute(path: str) -> str:
@@ -96,6 +113,28 @@ def tell_of(programs: Iterable[str], results: Callable[[], Iterable[Result]]) ->
     if missing:
         return tell(Result(program, "is no program that can be run") for program in missing)
     return tell(results())
+
+
+# What is left out of many places.
+
+
+def thinned(
+    places: Sequence[int], every: int, name: str, ends: Container[int] = ()
+) -> list[int]:
+    """Each Nth of some places, with the first, the last, and those at the end of a line. Which is
+    the first of each Nth depends on a name, so that traces that are alike have others."""
+    start, last = zlib.crc32(name.encode()) % every, len(places) - 1
+    return [
+        place
+        for at, place in enumerate(places)
+        if at % every == start or at in (0, last) or place in ends
+    ]
+
+
+def around_lf(text: bytes) -> set[int]:
+    """The places of each LF of a text, counted from 1, with those before and behind them."""
+    ends = (at for at, byte in enumerate(text, 1) if byte == ord(b"\n"))
+    return {place for end in ends for place in (end - 1, end, end + 1)}
 
 
 # What programs are run over.

@@ -55,7 +55,7 @@ class EditsTest(unittest.TestCase):
         self.write("edits/qa/one.edit", "file: src/lib.rt\n")
         self.write("edits/qb/two.edit", "file: src/lib.rt\n")
         (self.top / "release").mkdir()
-        for name in ("edits", "crates.py"):
+        for name in ("edits", "crates.py", "machine.py"):
             shutil.copy(FOLDER.parent / "release" / name, self.top / "release")
         self.write(".gitignore", "bin/\n__pycache__/\n")
         (self.top / "bin").mkdir()

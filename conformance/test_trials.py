@@ -10,11 +10,12 @@ import functools
 import os
 import shutil
 import subprocess
+import sys
 import tempfile
 import unittest
 from pathlib import Path
 
-from runners import FOLDER
+from runners import FOLDER, thinned
 from testing import RunnerCase, script
 from trials import compiled
 
@@ -323,6 +324,47 @@ class RefusalsTest(TrialCase):
 failing = script(FOLDER / "failing")
 
 
+class FewRefusalsTest(TrialCase):
+    """Each seventh allocation, with the first and the last."""
+
+    runner = "refusals"
+    part = ("--every", "7")
+
+    def test_right_program(self) -> None:
+        self.compile_program(ALLOCATIONS="50")
+        # Of 50 allocations 7 or 8, and the first and the last where they are none of these; and
+        # none, with all after them, on two traces to two subcommands, files, and a usage.
+        names = [f"{word} {name}" for word in ("check", "explain") for name in ("bad", self.other)]
+        tried = (
+            thinned(range(1, 51), 7, f"refusals: {name}") for name in (*names, "check a b", "audit")
+        )
+        counts = [2 * len(places) + 1 for places in tried]
+        self.assertLessEqual(max(counts), 2 * 10 + 1)
+        self.assert_passes(sum(counts))
+
+    def test_program_that_ignores_each_fourth_refusal(self) -> None:
+        self.compile_program(
+            ALLOCATIONS="50",
+            REFUSED='return i % 4 ? fault("qaudit: out of memory", "") : '
+            'report("unreadable\\n", 2)',
+        )
+        self.assert_first_failure("check bad without allocation 1: status 2, wanted 1")
+
+    def test_program_that_ignores_the_last_refusal(self) -> None:
+        self.compile_program(
+            ALLOCATIONS="50",
+            REFUSED='return i == 49 ? report("unreadable\\n", 2) : '
+            'fault("qaudit: out of memory", "")',
+        )
+        self.assert_first_failure("check bad without allocation 50: status 2, wanted 1")
+
+    def test_places_that_turn_with_the_trace(self) -> None:
+        places = range(1, 100)
+        tried = [set(thinned(places, 7, f"trace {number}")) for number in range(60)]
+        self.assertEqual(set().union(*tried), set(places))
+        self.assertTrue(all(len(it) <= 99 // 7 + 3 and {1, 99} <= it for it in tried))
+
+
 class FailingTest(TrialCase):
     runner = "failing"
     more: tuple[str, ...] = ("all",)
@@ -429,6 +471,39 @@ class FailingTest(TrialCase):
         )
 
 
+class FewFailingTest(TrialCase):
+    """Each seventh call fails, and those around each LF."""
+
+    runner = "failing"
+    part: tuple[str, ...] = ("--every", "7")
+    more: tuple[str, ...] = ("header-alone",)
+    other = "header-alone"
+
+    def test_right_program(self) -> None:
+        self.compile_program()
+        passed = int(self.lines(0)[-1].split()[0])
+        self.part = ()
+        every = int(self.lines(0)[-1].split()[0])
+        self.assertLess(passed, 0.6 * every)
+
+    def test_mistakes_that_are_found(self) -> None:
+        for macros, where in (
+            ({"GOES_ON_WRITING": "1"}, "check header-alone where write 1 fails"),
+            ({"GOES_ON_WRITING": "count == 0"}, "check header-alone where write 1 takes no byte"),
+            ({"GOES_ON_READING": "errno == EAGAIN"}, "check header-alone where read 1 would block"),
+            ({"IGNORES_FAULTS": "1"}, "check header-alone where read 1 fails"),
+            ({"STOPS": "0"}, "check a b where write "),
+        ):
+            with self.subTest(macros):
+                self.compile_program(AUDITOR, (), **macros)
+                self.assert_first_failure(where)
+
+    def test_mistake_at_an_lf_alone(self) -> None:
+        # It goes on if the read of an LF fails, which is the seventh byte.
+        self.compile_program(READS="1", GOES_ON_READING='length == 6 && !memcmp(line, "a line", 6)')
+        self.assert_first_failure("check header-alone where read 7 fails")
+
+
 class CutsTest(TrialCase):
     runner = "cuts"
 
@@ -488,6 +563,38 @@ class CutsTest(TrialCase):
     def test_program_that_writes_in_parts(self) -> None:
         self.compile_program(WRITES="20")
         self.assert_first_failure("check bad uncut: 2 writes, wanted 1")
+
+
+class FewCutsTest(TrialCase):
+    """Each seventh place, and those around each LF."""
+
+    runner = "cuts"
+    part = ("--every", "7")
+
+    def test_right_program(self) -> None:
+        self.write_trace("longer", b"a" * 80 + b"\n")
+        self.compile_program()
+        at_lf = {"bad": {6, 7, 8, 10, 11, 12, 23}, self.other: {6, 7, 8, 19}, "longer": {80}}
+        lengths = {"bad": len(BAD_TRACE), self.other: len(TRACE), "longer": 81}
+        tried = (
+            thinned(range(1, length), 7, f"check {name}", at_lf[name])
+            for name, length in lengths.items()
+        )
+        self.assert_passes(sum(len(places) + 2 for places in tried))
+
+    def test_program_that_loses_what_stood_before_a_cut(self) -> None:
+        self.compile_program(AT_EACH_PIECE="if (read_now != 1) length = 0")
+        self.assert_first_failure("check bad at ")
+
+    def test_program_that_loses_it_before_an_lf(self) -> None:
+        self.compile_program(AT_EACH_PIECE="if (read_now == 10) length = 0")
+        self.assert_first_failure("check bad at 10: status 0, wanted 1")
+
+    def test_wrong_numbers(self) -> None:
+        for number in ("0", "-1", "seven"):
+            command = ["-S", str(FOLDER / "cuts"), "--every", number, str(self.program)]
+            ended = subprocess.run([sys.executable, *command], capture_output=True, check=False)
+            self.assertEqual(ended.returncode, os.EX_USAGE, ended.stderr)
 
 
 class ReasonsTest(TrialCase):

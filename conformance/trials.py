@@ -3,6 +3,7 @@
 import argparse
 import contextlib
 import errno
+import itertools
 import os
 import struct
 import subprocess
@@ -16,7 +17,7 @@ from around import member_of, rows_behind
 from constants import MAX_LINE_LENGTH
 from objects import line_of, object_of
 from processes import Outcome, Words, differences, joined, status_of
-from runners import Parser, Result, Results, tell_of
+from runners import Parser, Result, Results, tell_of, thinned
 from silent import warnings_of
 from why import why
 
@@ -306,13 +307,14 @@ def two_files(trace: Path, folder: Path) -> TwoFiles:
 
 
 class Setup(NamedTuple):
-    """What is tried: an auditor, on traces of a folder, of which some may be named; and a folder
-    for its files."""
+    """What is tried: an auditor, on traces of a folder, of which some may be named; a folder for
+    its files; and how far the places are from each other that are tried."""
 
     auditor: Auditor
     traces: Path
     folder: Path
     names: list[str]
+    every: int
 
     def trace(self, name: str) -> Path:
         """A trace by its name."""
@@ -324,11 +326,13 @@ def short_traces(folder: Path) -> Iterator[Path]:
     return (path for path in sorted(folder.glob("*.trace")) if path.stat().st_size <= MAX_TRACE)
 
 
-def parser_of(text: str | None, *, may_be_silent: bool = False, names: str = "") -> Parser:
+def parser_of(
+    text: str | None, *, may_be_silent: bool = False, is_sweep: bool = False, names: str = ""
+) -> Parser:
     """The parser of a program that tries an auditor; `names` says what may be named behind the
-    corpus, if anything may."""
+    corpus, if anything may. A sweep tries many places, and can leave some out."""
     parser = Parser(text)
-    parser.set_defaults(traces=False, reasons=False, names=[])
+    parser.set_defaults(traces=False, reasons=False, names=[], every=1)
     group = parser.add_mutually_exclusive_group()
     if may_be_silent:
         about = "PROGRAM takes no arguments and writes no message, and is given traces alone"
@@ -336,6 +340,8 @@ def parser_of(text: str | None, *, may_be_silent: bool = False, names: str = "")
     if names:
         about = "PROGRAM has no subcommands and says why, as `reasons` has it"
         group.add_argument("--reasons", action="store_true", help=about)
+    if is_sweep:
+        parser.add_every()
     parser.add_program()
     parser.add_corpus()
     if names:
@@ -356,12 +362,17 @@ def try_all(given: argparse.Namespace, tries: Callable[[Setup], Results]) -> int
     def results() -> Results:
         with tempfile.TemporaryDirectory() as name:
             folder = Path(name)
-            auditor = auditor_of(given, compiled(folder))
-            yield from held_tries(
-                Setup(auditor, given.corpus / "traces", folder, given.names), tries
-            )
+            auditor, traces = auditor_of(given, compiled(folder)), given.corpus / "traces"
+            setup = Setup(auditor, traces, folder, given.names, given.every)
+            yield from held_tries(setup, tries)
 
     return tell_of([given.program], results)
+
+
+def refused(allocations: int, every: int, name: str) -> Iterator[int]:
+    """Which of so many allocations are refused, and then all that there should not be."""
+    tried = thinned(range(1, allocations + 1), every, name)
+    return itertools.chain(tried, itertools.count(allocations + 1))
 
 
 def held_tries(setup: Setup, tries: Callable[[Setup], Results]) -> Results:

@@ -22,6 +22,7 @@ from constants import (
 from names import shown_name
 from near import meant
 from sender import Deadline, Event, Ranges, Sender
+from sources import rule_of, source_of
 
 SHOWN_BYTES = 200
 # Where in a log a line is from, by the converter.
@@ -32,47 +33,6 @@ MICROSECONDS_IN_A_MILLISECOND = 1000
 # By so many units of a trace a time may be off by a rounding.
 ROUNDING = 10
 
-# Where each rule stands, by the beginning of its name in a report.
-SOURCES = {
-    Rule.TIME_BACK: "This format: the times of a trace do not fall.",
-    Rule.LOSS_OWED: "RFC 9002, 6.1, A.10: a loss that was found is declared before anything else"
-    " happens.",
-    Rule.LOSS_NOT_OWED: "RFC 9002, 6.1, A.10: only packets that were found lost are declared.",
-    Rule.LOSS_SET: "RFC 9002, 6.1, A.10: the packets that were found lost are declared, and no"
-    " others.",
-    Rule.SPACE_GONE: "RFC 9002, 6.4: a discarded packet number space is not used any more.",
-    Rule.NUMBER_NOT_HIGHER: "RFC 9000, 12.3; RFC 9002, 4.2: packet numbers of a space rise.",
-    Rule.PAST_WINDOW: "RFC 9002, 7: a sender must not send past its congestion window.",
-    Rule.PAST_PROBE: "RFC 9002, 6.2.4, 7.5: a probe timeout allows two datagrams.",
-    Rule.PAST_RECOVERY: "RFC 9002, 7.3.2: an entry into recovery allows one packet.",
-    Rule.ACK_UNSENT: "RFC 9000, 13.1: only packets that were sent can be acknowledged.",
-    Rule.TIMER_NOT_SET: "RFC 9002, 6.2, A.8: a timer that is not set does not fire.",
-    Rule.TIMER_OTHER: "RFC 9002, A.8, A.9: the timer fires for what it is set for.",
-    Rule.TIMER_EARLY: "RFC 9002, 6.1.2, 6.2.1, A.8: a timer must not fire before its deadline.",
-    Rule.PROBE_OWED: "RFC 9002, 6.2.4: a sender must send an ack-eliciting packet when a probe"
-    " timeout expires.",
-    Rule.NOT_CONFIRMED: "RFC 9001, 4.9.2: the handshake keys are kept until the handshake is"
-    " confirmed.",
-    Rule.OWED_AT_END: "RFC 9002, 6.1, A.10: a loss that was found is declared before the trace"
-    " ends.",
-    Rule.TIMER_LATE: "RFC 9002, 6.2: a timer fires when it is due, but for what the header allows.",
-    Rule.COLLAPSE_MISSING: "RFC 9002, 7.6.2: persistent congestion reduces the window to the"
-    " minimum.",
-}
-# The same for the values of reports (V16).
-VALUE_SOURCES = {
-    "window": "RFC 9002, 7.3, 7.6: the window by slow start, recovery, congestion avoidance and"
-    " persistent congestion.",
-    "ssthresh": "RFC 9002, 7.3.2: the slow start threshold is half of the window at the entry"
-    " into recovery.",
-    "bytes_in_flight": "RFC 9002, 6.2, B.2: packets are in flight until they are acknowledged,"
-    " declared lost or discarded; a timeout takes none out.",
-    "latest_rtt": "RFC 9002, 5.1: the time from when the largest packet of the ACK was sent to"
-    " the ACK, with no delay taken off, unless latest_rtt_less_delay says so.",
-    "min_rtt": "RFC 9002, 5.2: the least latest_rtt, with no delay taken off.",
-    "smoothed_rtt": "RFC 9002, 5.3: 7/8 of smoothed_rtt, and 1/8 of adjusted_rtt.",
-    "rttvar": "RFC 9002, 5.3: 3/4 of rttvar, and 1/4 of how far adjusted_rtt is from smoothed_rtt.",
-}
 # What an event did, where the amounts do not stand in the sentence.
 DEEDS = {
     Rule.LOSS_OWED: "came while a loss was owed",
@@ -346,7 +306,7 @@ def refused(verdict: Verdict, lines: list[bytes]) -> bytes:
 
 def refused_end(sender: Sender) -> bytes:
     """Why a trace is refused that ends after what a sender followed."""
-    source = SOURCES[Rule.OWED_AT_END]
+    source = source_of(Rule.OWED_AT_END).line
     return f"the trace ends while a loss is owed\n{owed_of(sender)}  {source}\n".encode()
 
 
@@ -354,9 +314,8 @@ def breaks(sender: Sender, event: Event, what: str, line: bytes) -> bytes:
     """How an event breaks a rule that a report names so, its line as it is shown, the facts of the
     sender before it, and the source."""
     rule, field = rule_of(what)
-    source = VALUE_SOURCES[field] if rule == Rule.METRIC else SOURCES[rule]
     rounding = rounding_of(sender, event, field) if rule == Rule.METRIC else ""
-    below = facts_of(sender, event, rule) + f"  {source}\n{rounding}"
+    below = facts_of(sender, event, rule) + f"  {source_of(what).line}\n{rounding}"
     return f"{breach_of(sender, event, rule, field)}\n".encode() + line + below.encode()
 
 
@@ -412,12 +371,6 @@ def rounding_of(sender: Sender, event: Event, field: str) -> str:
         '  Hint: this may be a rounding. Log nanoseconds ("unit":"ns"),'
         ' or see "report_slack_us".\n'
     )
-
-
-def rule_of(what: str) -> tuple[Rule, str]:
-    """The rule that a report names so, and its field; empty where it has none."""
-    number, name, *field = what.split(" ")
-    return Rule(f"{number} {name}"), "".join(field)
 
 
 def said_by(line: bytes) -> Event:

@@ -6,8 +6,10 @@ Each test has a small repository in a temporary folder, or programs that are no 
 a stand-in for `rt`.
 """
 
+import contextlib
 import gzip
 import hashlib
+import io
 import json
 import os
 import re
@@ -617,6 +619,202 @@ class Unproved(Repository):
             self.assertNotIn("without a proof", out)
 
 
+# What the runner of a sweep writes, by what is in a file.
+SWEEP = """\
+#!{python}
+import pathlib, sys
+text = pathlib.Path("given").read_text()
+print(f"{{sys.argv[1:]}} {{text}}")
+print("FAILED" if text == "wrong" else f"{{text}} passed, 0 failed")
+sys.exit(text in ("wrong", "0"))
+"""
+
+
+class Sweeps(Repository):
+    """`sweeps` in a repository with two sweeps."""
+
+    def setUp(self) -> None:
+        super().setUp()
+        self.sweeps = script(HERE / "sweeps")
+        self.sweeps.TOP = self.top
+        self.sweeps.SWEEPS = (
+            self.sweeps.Sweep("one", ("./runner {other}", "./runner"), ("other",), ("given",)),
+            self.sweeps.Sweep("two", (f"{sys.executable} tests.py",), (), ("tests.py",)),
+        )
+        self.write("runner", SWEEP.format(python=sys.executable))
+        (self.top / "runner").chmod(0o755)
+        self.write("given", "7")
+        self.write_tests("2")
+        self.write("crates/other/out/other", "a program")
+        self.enterContext(contextlib.redirect_stdout(io.StringIO()))
+
+    def write_tests(self, expected: str) -> None:
+        """Tests of which one is that 1 + 1 is this."""
+        test = f"    def test_it(self):\n        self.assertEqual(1 + 1, {expected})\n"
+        head = "import unittest\nclass Test(unittest.TestCase):\n"
+        self.write("tests.py", f"{head}{test}unittest.main()\n")
+
+    def rows(self) -> dict[str, int]:
+        """The rows, and how many runs passed."""
+        return {row.sweep: row.passed for row in self.sweeps.read_rows().values()}
+
+    def assert_stopped(self, said: str, names: tuple[str, ...] = ()) -> None:
+        """A run is stopped, and so is a release."""
+        with self.assertRaisesRegex(self.sweeps.Stopped, said):
+            self.sweeps.run_all([*names])
+        with self.assertRaisesRegex(self.sweeps.Stopped, "has no row of the files as they are"):
+            self.sweeps.check()
+
+    def test_a_row_for_each(self) -> None:
+        with self.assertRaisesRegex(self.sweeps.Stopped, "for one two: `make sweeps` runs these"):
+            self.sweeps.check()
+        self.assertEqual(self.sweeps.run_all([]), 0)
+        self.assertEqual(self.rows(), {"one": 14, "two": 1})
+        self.assertEqual(self.sweeps.check(), 0)
+        # Nothing is run again, not even a runner that would fail.
+        self.write("runner", "no program")
+        self.assertEqual(self.sweeps.run_all([]), 0)
+
+    def test_what_changed_since(self) -> None:
+        self.sweeps.run_all([])
+        for name in ("given", "crates/other/src/lib.rt", "crates/low/specs/A.antt", "crates.txt"):
+            before = (self.top / name).read_text() if (self.top / name).exists() else ""
+            self.write(name, "8" if name == "given" else before.replace("low  ", "low ") + "\n")
+            if name == "crates.txt":
+                self.write(name, LISTED.replace("other: low", "other: low middle"))
+            with self.assertRaisesRegex(self.sweeps.Stopped, "for one: "):
+                self.sweeps.check()
+            self.sweeps.run_all([])
+            self.assertEqual(self.sweeps.check(), 0)
+        # A crate that it does not use.
+        self.write("crates/the_program/src/lib.rt", "other\n")
+        self.assertEqual(self.sweeps.check(), 0)
+
+    def test_what_fails_has_no_row(self) -> None:
+        self.sweeps.run_all([])
+        self.write("given", "wrong")
+        self.assert_stopped("not all passed, or files changed, in one")
+        self.assertEqual(self.rows(), {"two": 1})
+        self.write("given", "0")
+        self.assert_stopped("not all passed")
+        self.write("given", "7")
+        self.write_tests("3")
+        self.assert_stopped("not all passed, or files changed, in two")
+        self.assertEqual(self.rows(), {"one": 14})
+
+    def test_what_is_left_out_has_not_passed(self) -> None:
+        self.write_tests('self.skipTest("no tool")')
+        self.assert_stopped("not all passed, or files changed, in two")
+        text = (self.top / "tests.py").read_text()
+        more = "    def test_more(self):\n        pass\nunittest.main()"
+        self.write("tests.py", text.replace("unittest.main()", more))
+        self.assertEqual(self.sweeps.run_all([]), 0)
+        self.assertEqual(self.rows(), {"one": 14, "two": 1})
+
+    def test_what_fails_after_it_passed(self) -> None:
+        self.sweeps.run_all([])
+        self.write("runner", "#!/bin/sh\nexit 1\n")
+        self.assert_stopped("in one", ("one",))
+        self.assertEqual(self.rows(), {"two": 1})
+
+    def test_files_that_change_meanwhile(self) -> None:
+        self.write("runner", "#!/bin/sh\nprintf 9 >> given\necho 3 passed, 0 failed\n")
+        self.assert_stopped("in one")
+
+    def test_what_is_not_there(self) -> None:
+        (self.top / "crates/other/out/other").unlink()
+        self.assert_stopped("there is no crates/other/out/other")
+        (self.top / "given").unlink()
+        with self.assertRaisesRegex(self.sweeps.Stopped, "one: there is no given"):
+            self.sweeps.sources_of(self.sweeps.SWEEPS[0])
+
+    def test_a_table_that_is_none(self) -> None:
+        self.write("release/SWEEPS", "sweep\tother\none\t1\n")
+        with self.assertRaisesRegex(self.sweeps.Stopped, "is no table of sweeps"):
+            self.sweeps.check()
+
+    def test_wrong_arguments(self) -> None:
+        status, _, error = self.run_program("release/sweeps", "three")
+        self.assertEqual(status, os.EX_USAGE)
+        self.assertIn("there is no sweep three", error)
+
+
+class SweepsHere(unittest.TestCase):
+    """The sweeps of this repository."""
+
+    def test_they_are_those_of_the_makefile(self) -> None:
+        sweeps = script(HERE / "sweeps")
+        text = (HERE.parent / "Makefile").read_text()
+        names = {"program": "qaudit", "program_why": "qaudit_why"}
+        names |= {"program_of_logs": "qlog_to_trace", "program_by_one_byte": "one_byte"}
+        for name, program in names.items():
+            text = text.replace(f"$({name})", f"{{{program}}}")
+        thinned = re.findall(r"^\t(.* \$\(every\) .*)$", text, re.MULTILINE)
+        made = [command.replace("$(every) ", "").split() for command in thinned]
+        listed = [command.split() for it in sweeps.SWEEPS for command in it.commands]
+        self.assertEqual(made, [it for it in listed if it[0] != "python3"])
+        tests = re.search(r"^release_tests := (.*)$", text, re.MULTILINE)
+        named = {it.name for it in sweeps.SWEEPS if it.name.startswith("test_")}
+        self.assertEqual(set(tests[1].split()) if tests else None, named)
+
+    def test_their_files_are_there(self) -> None:
+        sweeps = script(HERE / "sweeps")
+        for sweep in sweeps.SWEEPS:
+            self.assertGreater(len(sweeps.files_of(sweep)), 3, sweep.name)
+            self.assertNotIn(HERE / "SWEEPS", sweeps.files_of(sweep))
+
+
+class Ci(unittest.TestCase):
+    """What a server that tests this repository runs."""
+
+    def run_it(self, apt: str) -> tuple[int, str]:
+        """Runs it with this in the place of `apt-get`, and a `make` that says what it is asked."""
+        top = new_folder(self)
+        shutil.copytree(HERE.parent / ".ci", top / ".ci")
+        bodies = {"apt-get": apt, "make": 'echo "make $@"', "timeout": 'shift; "$@"'}
+        for name, body in bodies.items():
+            (top / name).write_text(f"#!/bin/sh\n{body}\n")
+            (top / name).chmod(0o755)
+        command = ["/bin/sh", str(top / ".ci/run")]
+        path = {"PATH": f"{top}:/bin"}
+        ended = subprocess.run(command, env=path, capture_output=True, text=True, check=False)
+        return ended.returncode, ended.stdout
+
+    def test_it_waits_three_minutes_at_most(self) -> None:
+        text = (HERE.parent / ".ci/run").read_text()
+        limits = [int(seconds) for seconds in re.findall(r"timeout (\d+) apt-get", text)]
+        self.assertEqual(len(limits), len(re.findall(r"apt-get --", text)))
+        self.assertLessEqual(sum(limits), 180)
+
+    @unittest.skipIf(shutil.which("chromedriver", path="/bin"), "there is a browser")
+    def test_without_a_browser(self) -> None:
+        said = "no browser and no valgrind within three minutes: the tests that want them are left"
+        self.assertEqual(self.run_it("exit 1"), (0, f"{said} out\nmake test\n"))
+        self.assertEqual(self.run_it('echo "$@"'), (0, "make test\n"))
+
+
+class Timed(unittest.TestCase):
+    """How long a part of a command takes."""
+
+    def test_parts(self) -> None:
+        top = new_folder(self)
+        file, environment = top / "parts", {**os.environ, "QAUDIT_MINUTES": str(top / "parts")}
+        for words, status in (("exit 0", 0), ("exit 3", 3), ("kill -9 $$", 137)):
+            command = [sys.executable, str(HERE / "timed"), "pages", "sh", "-c", words]
+            ended = subprocess.run(command, env=environment, check=False)
+            self.assertEqual(ended.returncode, status)
+        line = r"pages \d+\.\d{3} \d+\.\d{3}\n"
+        self.assertRegex(file.read_text(), f"^({line}){{3}}$")
+        command = [sys.executable, str(HERE / "timed"), "pages"]
+        ended = subprocess.run(command, capture_output=True, check=False)
+        self.assertEqual(ended.returncode, os.EX_USAGE)
+
+    def test_no_file(self) -> None:
+        command = [sys.executable, str(HERE / "timed"), "pages", "true"]
+        environment = {key: it for key, it in os.environ.items() if key != "QAUDIT_MINUTES"}
+        subprocess.run(command, env=environment, check=True)
+
+
 class Minutes(unittest.TestCase):
     """The table of minutes."""
 
@@ -625,10 +823,11 @@ class Minutes(unittest.TestCase):
 
     def test_rows(self) -> None:
         made = self.minutes.Measured("build", 1475, 3600, 4, 0.25, "abcd")
-        page = self.minutes.with_row(PAGE, made)
+        page = self.minutes.with_rows(PAGE, [made])
         self.assertIn("| `make build` | 24:35 | 60:00 | 4 | 0.2 | ", page)
-        page = self.minutes.with_row(page, self.minutes.Measured("run", 44, 61, 4, 0, "abcd"))
-        page = self.minutes.with_row(page, self.minutes.Measured("build", 59.6, 70, 1, 0, "abce"))
+        page = self.minutes.with_rows(page, [self.minutes.Measured("run", 44, 61, 4, 0, "abcd")])
+        again = self.minutes.Measured("build", 59.6, 70, 1, 0, "abce")
+        page = self.minutes.with_rows(page, [again])
         rows = [line for line in page.splitlines() if line.startswith("| `")]
         starts = ["| `make run` | 0:44 |", "| `make build` | 1:00"]
         self.assertEqual([row[:21] for row in rows], starts)
@@ -638,6 +837,56 @@ class Minutes(unittest.TestCase):
         self.assertIn(" with 1 processor", self.minutes.said_of("build", page))
         wanted = "how long it takes was not measured"
         self.assertEqual(self.minutes.said_of("quick", page), wanted)
+
+    def test_parts(self) -> None:
+        file = new_folder(self) / "parts"
+        whole = self.minutes.Measured("test", 3600, 9000, 4, 0.25, "abcd")
+        self.assertEqual(self.minutes.parts_in(file, whole), [])
+        lines = ("pages 61.4 90", "python 9.5 8", "other 5 5", "conformance 300 600")
+        file.write_text("".join(f"{line}\n" for line in (*lines, "python 30 30")))
+        parts = self.minutes.parts_in(file, whole)
+        page = self.minutes.with_rows(PAGE, [whole, *parts])
+        page = self.minutes.with_rows(page, [self.minutes.Measured("run", 44, 61, 4, 0, "abcd")])
+        rows = [line.split("| 4 |")[0] for line in page.splitlines() if line.startswith("| `")]
+        wanted = [
+            "| `make run` | 0:44 | 1:01 ",
+            "| `make test` | 60:00 | 150:00 ",
+            "| `make test`, Python | 0:40 | 0:38 ",
+            "| `make test`, conformance | 5:00 | 10:00 ",
+            "| `make test`, pages | 1:01 | 1:30 ",
+        ]
+        self.assertEqual(rows, wanted)
+        self.assertIn("about 60 minutes, as measured on ", self.minutes.said_of("test", page))
+        # Measured again, it has the parts that it has then.
+        page = self.minutes.with_rows(page, [whole, parts[1]])
+        self.assertEqual(page.count("`make test`"), 2)
+        self.assertEqual(page.count("`make run`"), 1)
+
+    def test_minutes_in_the_readme(self) -> None:
+        top = new_folder(self)
+        self.minutes.TOP = top
+        (top / "docs").mkdir()
+        begin, end = self.minutes.BEGIN_README, self.minutes.END_README
+        (top / "README.md").write_text(f"Before {begin}{end}. After.\n")
+        (top / "docs/proofs.md").write_text(PAGE)
+        with self.assertRaisesRegex(Exception, "has no row of `make test`"):
+            self.minutes.check()
+        page = self.minutes.with_rows(PAGE, [self.minutes.Measured("test", 3600, 1, 4, 0, "abcd")])
+        (top / "docs/proofs.md").write_text(page)
+        with self.assertRaisesRegex(Exception, "README.md has other minutes of `make test` than"):
+            self.minutes.check()
+        readme = self.minutes.with_minutes((top / "README.md").read_text(), page)
+        self.assertRegex(readme, rf"^Before {begin}60 minutes{end}\. After\.\n$")
+        (top / "README.md").write_text(readme)
+        self.assertEqual(self.minutes.check(), 0)
+        with self.assertRaisesRegex(Exception, "has no place for the minutes"):
+            self.minutes.with_minutes("Before.\n", page)
+
+    def test_wrong_arguments(self) -> None:
+        for words in ("", "other", "--check test", "--check --say"):
+            command = [sys.executable, str(HERE / "minutes"), *words.split()]
+            ended = subprocess.run(command, capture_output=True, check=False)
+            self.assertEqual(ended.returncode, os.EX_USAGE, words)
 
     def test_the_gate_from_nothing(self) -> None:
         self.assertEqual(self.minutes.gate("rattle-kit-13b logic 1"), ["rt", "ci"])

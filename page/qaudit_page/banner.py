@@ -58,7 +58,8 @@ def sentence(verdict: Verdict, basis: Basis) -> str:
     word = verdict.kind.capitalize()
     line = link(verdict.line, f"line {count(verdict.line)}")
     what = f"{html(verdict.rule)} {html(verdict.name)}"
-    return f"<b>{word} at {line}: {what}.</b> {meaning_of(verdict.rule)}"
+    meaning = meaning_of(verdict.rule, str(verdict.said.get("field", "")))
+    return f"<b>{word} at {line}: {what}.</b> {meaning}"
 
 
 def grounds_shown(basis: Basis) -> str:

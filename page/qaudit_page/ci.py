@@ -9,7 +9,18 @@ from xml.etree import ElementTree
 
 from .known import Known, known_by
 from .matrix import FAILED, OTHER, WITH_ALLOWANCES, Result
-from .rules import MEANINGS
+from .rules import (
+    ANY,
+    DESCRIBED,
+    EXAMPLE,
+    FORMAT,
+    MEANINGS,
+    MUST,
+    RULES,
+    SHOULD,
+    is_counted,
+    requirement_of,
+)
 from .texts import count, visible
 from .version import version
 from .violations import Violation
@@ -18,20 +29,42 @@ SCHEMA = "https://json.schemastore.org/sarif-2.1.0.json"
 NAME = "qaudit"
 ANNOTATED = {"%": "%25", "\r": "%0D", "\n": "%0A"}
 ANNOTATED_NAMES = {**ANNOTATED, ":": "%3A", ",": "%2C"}
+# How a violation counts by how strong the RFC is; a line that cannot be read is an error.
+ERROR, WARNING, NOTE = "error", "warning", "note"
+LEVELS = {MUST: ERROR, SHOULD: WARNING, DESCRIBED: NOTE, EXAMPLE: NOTE, FORMAT: NOTE}
+# What GitHub calls these.
+NAMES_OF_LEVELS = {ERROR: "error", WARNING: "warning", NOTE: "notice"}
 
 # The case and the stacks of a result.
 Places = Callable[[Result], tuple[str, str]]
 
 
 class Listed:
-    """Results with what is known of them."""
+    """Results with what is known of them, and how strong the RFC has to be for a failure."""
 
-    def __init__(self, results: list[Result], place: Places, known: set[Known] | None) -> None:
-        self.results, self.place, self.known = results, place, known
+    def __init__(
+        self,
+        results: list[Result],
+        place: Places,
+        known: set[Known] | None,
+        fail_on: str = ANY,
+    ) -> None:
+        self.results, self.place, self.known, self.fail_on = results, place, known, fail_on
 
     def is_known(self, result: Result, violation: Violation) -> bool:
         """Whether a violation is known."""
         return self.known is not None and self.as_known(result, violation) in self.known
+
+    def is_failure(self, result: Result, violation: Violation) -> bool:
+        """Whether a violation is one that fails: it is not known, and strong enough."""
+        is_strong = is_counted(violation.requirement, self.fail_on)
+        return is_strong and not self.is_known(result, violation)
+
+    def level_of(self, result: Result, violation: Violation) -> str:
+        """How a violation counts: as a note if it is known, and else by how strong the RFC is."""
+        if self.is_known(result, violation):
+            return NOTE
+        return LEVELS.get(violation.requirement, ERROR)
 
     def as_known(self, result: Result, violation: Violation) -> Known:
         """A violation as it would be known."""
@@ -42,7 +75,8 @@ class Listed:
 
 
 def junit(listed: Listed) -> str:
-    """A test case for each trace. One whose violations are all known counts as skipped."""
+    """A test case for each trace. One whose violations are all known, or weaker than --fail-on
+    says, counts as skipped."""
     suites = ElementTree.Element("testsuites")
     suite = ElementTree.SubElement(suites, "testsuite", name=NAME)
     counts = dict.fromkeys(("tests", "failures", "errors", "skipped"), 0)
@@ -73,12 +107,14 @@ def outcome(listed: Listed, result: Result, case: ElementTree.Element) -> str:
     if result.kind == FAILED:
         ElementTree.SubElement(case, "error", message=visible(result.fault))
         return "errors"
-    new = [it for it in result.violations if not listed.is_known(result, it)]
+    new = [it for it in result.violations if listed.is_failure(result, it)]
     told = new or list(result.violations)
     if not told:
         return ""
     text = "\n".join(f"{at(result, it.line)}: {text_of(result, it)}" for it in told)
-    message = "known: " * (not new) + ", ".join(it.title for it in told)
+    are_known = all(listed.is_known(result, it) for it in told)
+    front = "" if new else "known: " if are_known else f"below --fail-on {listed.fail_on}: "
+    message = front + ", ".join(it.with_level for it in told)
     name = "failure" if new else "skipped"
     element = ElementTree.SubElement(case, name, message=visible(message))
     if new:
@@ -133,14 +169,16 @@ def text_of(result: Result, violation: Violation) -> str:
 
 
 def sarif(listed: Listed) -> str:
-    """A result for each violation, at its first line. Known ones are notes, and suppressed. What
-    was accepted with allowances is no result, but a notification."""
+    """A result for each violation, at its first line: an error, a warning or a note by how strong
+    the RFC is. Known ones are notes, and suppressed. What was accepted with allowances is no
+    result, but a notification."""
     rules = [
         {
             "id": rule,
             "name": meaning.name,
             "shortDescription": {"text": meaning.sentence},
             "help": {"text": meaning.source},
+            "defaultConfiguration": {"level": level_of_rule(rule)},
         }
         for rule, meaning in MEANINGS.items()
     ]
@@ -163,6 +201,11 @@ def sarif(listed: Listed) -> str:
     }
     whole = {"$schema": SCHEMA, "version": "2.1.0", "runs": [run]}
     return json.dumps(whole, indent=1, ensure_ascii=False) + "\n"
+
+
+def level_of_rule(rule: str) -> str:
+    """How a violation of a rule counts, or the fault of a line."""
+    return LEVELS[requirement_of({"rule": rule})] if rule in RULES else ERROR
 
 
 def notification(level: str, key: str, text: str) -> dict[str, Any]:
@@ -193,7 +236,7 @@ def sarif_of(listed: Listed, result: Result, violation: Violation) -> dict[str, 
     is_known = listed.is_known(result, violation)
     said: dict[str, Any] = {
         "ruleId": violation.rule,
-        "level": "note" if is_known else "error",
+        "level": listed.level_of(result, violation),
         "message": {"text": visible(text_of(result, violation))},
         "locations": [place(result, violation.line)],
         "occurrenceCount": violation.count,
@@ -222,8 +265,8 @@ def annotations(listed: Listed) -> str:
         if result.kind == FAILED:
             lines.append(annotation("error", result.trace, 0, NAME, result.fault))
         for it in result.violations:
-            level = "notice" if listed.is_known(result, it) else "error"
-            title = f"{NAME} {it.title}"
+            level = NAMES_OF_LEVELS[listed.level_of(result, it)]
+            title = f"{NAME} {it.with_level}"
             number, text = line_of(result, it.line), text_of(result, it)
             lines.append(annotation(level, result.trace, number, title, text))
     return "".join(f"{line}\n" for line in lines)

@@ -1,5 +1,6 @@
 """The departures from the rules of conduct that `qaudit-why --all --json` tells of, as a table."""
 
+from collections import Counter
 from collections.abc import Iterable
 from dataclasses import dataclass
 
@@ -8,7 +9,7 @@ from .facts import facts_of
 from .failure import Failure
 from .grounds import Basis
 from .program import Object, Verdict
-from .rules import meaning_of
+from .rules import REQUIREMENTS, meaning_of, requirement_of
 from .texts import count, html, link, milliseconds, pairs, plural, size
 
 # Of a kind so many lines are seen at once; the others are unfolded.
@@ -18,8 +19,8 @@ UNITS = ("us", "ns")
 
 @dataclass(frozen=True)
 class Departures:
-    """The departures of a kind: its rule, how many there are, at which lines the first of them, and
-    the greatest amount in words, which is empty where there is none."""
+    """The departures of a kind: its rule, how many there are, at which lines the first of them, the
+    greatest amount in words, which is empty where there is none, and how strong the RFC is."""
 
     rule: str
     name: str
@@ -27,6 +28,7 @@ class Departures:
     count: int
     greatest: str
     lines: list[int]
+    requirement: str
 
 
 def departures_of(verdict: Verdict) -> list[Departures]:
@@ -42,7 +44,8 @@ def departures(said: Object) -> Departures:
     field = said.get("field")
     name = f"{said['name']} {field}" if field else str(said["name"])
     lines = [int(line) for line in said["lines"]]
-    return Departures(str(said["rule"]), name, field, int(said["count"]), greatest(said), lines)
+    times, requirement = int(said["count"]), requirement_of(said)
+    return Departures(str(said["rule"]), name, field, times, greatest(said), lines, requirement)
 
 
 def greatest(said: Object) -> str:
@@ -73,12 +76,20 @@ def section_of(verdict: Verdict, basis: Basis, unit: str) -> str:
     )
 
 
-def sentence_of(verdict: Verdict, basis: Basis, kinds: Iterable[Departures]) -> str:
+def by_level(kinds: Iterable[Departures]) -> str:
+    """How often the sender departs by how strong the RFC is there, from the strongest on."""
+    counts = Counter[str]()
+    for kind in kinds:
+        counts[kind.requirement] += kind.count
+    return ", ".join(f"{count(counts[it])} {it}" for it in REQUIREMENTS if counts[it])
+
+
+def sentence_of(verdict: Verdict, basis: Basis, kinds: list[Departures]) -> str:
     """How often the sender departs, and how the trace ends past that, in a sentence."""
     total, events = sum(kind.count for kind in kinds), verdict.said.get("events")
     times = "once" if total == 1 else f"{count(total)} times"
     among = f" in {plural(events, 'event')}" if isinstance(events, int) else ""
-    begins = f"The sender breaks rules <b>{times}{among}</b>."
+    begins = f"The sender breaks rules <b>{times}{among}</b> ({by_level(kinds)})."
     end = verdict.end
     if end.kind == "accepted" and basis.is_amber:
         return f"{begins} Everything else in the trace is accepted, {with_what(basis)}."
@@ -96,14 +107,14 @@ def end_of(end: Verdict, unit: str) -> str:
         return ""
     facts = facts_of(end.said, unit)
     told = f'<dl class="facts">{pairs(facts)}</dl>' if facts else ""
-    return f"<p>{meaning_of(end.rule)}</p>{told}"
+    return f"<p>{meaning_of(end.rule, str(end.said.get('field', '')))}</p>{told}"
 
 
 def row_of(kind: Departures) -> str:
     """The row of a kind."""
     return (
         f'<tr><th scope="row">{html(kind.rule)} {html(kind.name)}</th>'
-        f'<td class="meaning">{meaning_of(kind.rule)}</td>'
+        f'<td class="meaning">{meaning_of(kind.rule, kind.field or "")}</td>'
         f'<td data-name="how often">{count(kind.count)}</td>'
         f'<td data-name="by at most">{html(kind.greatest)}</td>'
         f'<td class="links">{links_of(kind)}</td></tr>'

@@ -20,6 +20,7 @@ from .logs import Taken, taken
 from .page import Wanted, audited, page_of
 from .places import Place, places_of
 from .program import Verdict, find, verdict_of, whole_verdict_of
+from .rules import REQUIREMENTS, requirement_of
 from .template import filled, policy
 from .texts import count, html, plural
 from .timers import are_short
@@ -46,6 +47,7 @@ RECORDED = (
     "line",
     "rule",
     "name",
+    "requirement",
     "fault",
     "page",
     "is_doubtful",
@@ -68,6 +70,8 @@ class Result:
     rule: str = ""
     name: str = ""
     fault: str = ""
+    # How strong the RFC is at that rule; empty where there is none.
+    requirement: str = ""
     # Where its page lies.
     page: str = ""
     # Whether it is refused, and the conversion of its log may be the cause.
@@ -141,6 +145,7 @@ def judged(job: Job) -> Result:
         verdict.line,
         verdict.rule,
         verdict.name,
+        requirement=requirement_of(verdict.said),
         page=str(job.page or ""),
         is_doubtful=verdict.kind == "refused" and bool(found.notes),
         trace=as_text(job.trace),
@@ -466,9 +471,18 @@ def where(result: Result) -> str:
 
 
 def rules(results: list[Result]) -> str:
-    """How many traces break each rule first, or have each fault."""
-    by_rule = Counter(f"{it.rule} {it.name}" for it in results if it.rule)
+    """How many traces break each rule first, and how strong the RFC is there, or have each fault;
+    and how many there are of each strength."""
+    by_rule = Counter((f"{it.rule} {it.name}", it.requirement) for it in results if it.rule)
     ordered = sorted(by_rule.items(), key=lambda it: (-it[1], it[0]))
-    return "".join(
-        f'<tr><th scope="row">{html(rule)}</th><td>{number}</td></tr>' for rule, number in ordered
-    )
+    rows = [
+        f'<tr><th scope="row">{html(rule)}</th><td>{html(requirement)}</td><td>{number}</td></tr>'
+        for (rule, requirement), number in ordered
+    ]
+    by_level = Counter(it.requirement for it in results)
+    rows += [
+        f'<tr><th scope="row">all</th><td>{it}</td><td>{by_level[it]}</td></tr>'
+        for it in REQUIREMENTS
+        if by_level[it]
+    ]
+    return "".join(rows)

@@ -21,6 +21,7 @@ from .known import Known, Seen, compared, known_by, known_in
 from .known import written as known_text
 from .library import dygraphs
 from .matrix import (
+    ACCEPTED,
     FAILED,
     Before,
     Change,
@@ -37,6 +38,7 @@ from .matrix import (
     unclear_note,
 )
 from .program import find
+from .rules import ANY, FAIL_ON, is_counted
 from .search import Search
 from .streams import ended, workers_of
 from .texts import plural, visible
@@ -50,7 +52,8 @@ ENDING = """\
 The exit status is 0 if all are accepted, 1 if one is refused, 2 if one cannot be read, 3 if a file
 or a program is missing or failed, and 64 if the arguments are wrong. With --against it is 0 if
 nothing is refused that was not before, and 1 if something is, or by another rule. With --known it
-is 0 if every violation is known, and 1 if one is new."""
+is 0 if every violation is known, and 1 if one is new. With --fail-on must or should violations of
+what the RFC says more weakly are shown, but do not make it 1."""
 WIDTH = 40
 # How many processes may be started for each processor.
 MOST_A_CORE = 4
@@ -87,6 +90,8 @@ def arguments() -> argparse.Namespace:
     parser.add_argument("--known", type=Path, metavar="FILE", help=text)
     text = "writes all violations of this run into the file of --known"
     parser.add_argument("--write-known", action="store_true", help=text)
+    text = "which violations fail: of a MUST, of a MUST or a SHOULD, or any (default: any)"
+    parser.add_argument("--fail-on", choices=FAIL_ON, default=ANY, help=text)
     text = "writes JUnit XML: a test case for each trace"
     parser.add_argument("--junit", type=Path, metavar="FILE", help=text)
     text = "writes SARIF 2.1.0: a result for each violation, at its line"
@@ -120,7 +125,8 @@ def workers(wanted: int, traces: int) -> int:
 
 def is_whole(given: argparse.Namespace) -> bool:
     """Whether every violation is wanted, and not only the first of each trace."""
-    return bool(given.known or given.junit or given.sarif or given.annotate)
+    is_for_ci = given.known or given.junit or given.sarif or given.annotate
+    return bool(is_for_ci or given.fail_on != ANY)
 
 
 def jobs_of(given: argparse.Namespace, search: Search) -> list[Job]:
@@ -195,19 +201,31 @@ def results_of(given: argparse.Namespace) -> list[Result]:
         raise Failure("a process of the audit was killed: is there memory enough?") from fault
 
 
+def is_failure(result: Result, fail_on: str) -> bool:
+    """Whether a trace fails: it is not accepted, and a violation in it is strong enough."""
+    if fail_on == ANY or result.kind != "refused":
+        return result.kind != ACCEPTED
+    return any(is_counted(it.requirement, fail_on) for it in result.violations)
+
+
 def status_of(
-    results: list[Result], changes: list[Change] | None, new: list[Seen] | None
+    results: list[Result],
+    changes: list[Change] | None,
+    new: list[Seen] | None,
+    fail_on: str,
 ) -> Status:
-    """The worst of all verdicts, or whether anything is worse than before or not known."""
-    kinds = {result.kind for result in results}
-    if FAILED in kinds:
+    """The worst of all verdicts that count, or whether anything that does is worse than before or
+    not known."""
+    failing = {it.key: it.kind for it in results if is_failure(it, fail_on)}
+    if FAILED in failing.values():
         return Status.FAULT
     if changes is not None or new is not None:
-        is_worse = any(it.is_worse for it in changes or [])
-        return Status.REFUSED if is_worse or new else Status.WRITTEN
-    if "unreadable" in kinds:
+        is_worse = any(it.is_worse and it.key in failing for it in changes or [])
+        is_new = any(is_counted(it.violation.requirement, fail_on) for it in new or [])
+        return Status.REFUSED if is_worse or is_new else Status.WRITTEN
+    if "unreadable" in failing.values():
         return Status.UNSHOWN
-    return Status.REFUSED if "refused" in kinds else Status.WRITTEN
+    return Status.REFUSED if failing else Status.WRITTEN
 
 
 def tell(changes: list[Change], before: Before) -> None:
@@ -249,7 +267,7 @@ class Ci:
         if given.write_known:
             write(given.known, known_text(seen))
             self.known = {it.as_known for it in seen}
-        listed = Listed(results, self.place, self.known)
+        listed = Listed(results, self.place, self.known, given.fail_on)
         if given.junit:
             write(given.junit, junit(listed))
         if given.sarif:
@@ -290,7 +308,7 @@ def main() -> Status:
         return failure.status
     if before is not None:
         tell(changes or [], before)
-    return status_of(results, changes, new)
+    return status_of(results, changes, new, given.fail_on)
 
 
 def program() -> NoReturn:

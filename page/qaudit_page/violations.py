@@ -5,7 +5,7 @@ from dataclasses import dataclass
 from .departures import departures_of
 from .facts import facts_of
 from .program import Object, Verdict
-from .rules import MEANINGS, NOT_CONVERTED
+from .rules import MEANINGS, NOT_CONVERTED, meaning_at, requirement_of
 from .texts import count
 
 
@@ -22,11 +22,18 @@ class Violation:
     count: int
     # The largest amount or the facts, in words.
     amount: str
+    # How strong the RFC is there; empty of a line that cannot be read.
+    requirement: str = ""
 
     @property
     def title(self) -> str:
         """The rule with its name and field, as `V16 metric rttvar`."""
         return " ".join(filter(None, (self.rule, self.name, self.field)))
+
+    @property
+    def with_level(self) -> str:
+        """The title with how strong the RFC is, as `V16 metric rttvar (described)`."""
+        return f"{self.title} ({self.requirement})" if self.requirement else self.title
 
     @property
     def where(self) -> str:
@@ -36,7 +43,7 @@ class Violation:
     @property
     def text(self) -> str:
         """What it is, how often and by how much."""
-        meaning = MEANINGS.get(self.rule)
+        meaning = meaning_at(self.rule, self.field)
         told = self.title if meaning is None else f"{self.title}: {meaning.sentence}"
         if meaning is not None:
             told += f" ({meaning.source})"
@@ -55,6 +62,7 @@ def violations_of(verdict: Verdict) -> tuple[Violation, ...]:
             kind.lines[0],
             kind.count,
             f"At most {kind.greatest}." if kind.greatest else "",
+            kind.requirement,
         )
         for kind in departures_of(verdict)
     ]
@@ -73,7 +81,8 @@ def last_of(end: Verdict) -> Violation:
     """The violation, or the line that cannot be read, at which the audit of a trace ends."""
     said = end.said
     field = str(said.get("field", said.get("key", "")))
-    return Violation(end.rule, str(said.get("name", "")), field, end.line, 1, amount_of(said))
+    name, amount = str(said.get("name", "")), amount_of(said)
+    return Violation(end.rule, name, field, end.line, 1, amount, requirement_of(said))
 
 
 def amount_of(said: Object) -> str:

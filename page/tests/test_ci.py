@@ -206,6 +206,7 @@ class Files(unittest.TestCase):
         self.assertEqual(refused.get("classname"), "quinn \u2192 quic-go")
         (failure,) = refused
         self.assertEqual((failure.tag, failure.get("type")), ("failure", "V6"))
+        self.assertEqual(failure.get("message"), "V6 number-not-higher (MUST)")
         self.assertIn("traces/quinn_quic-go_loss.trace:3: V6", failure.text or "")
         self.assertEqual(by_name["quinn_ngtcp2_retry"][0].get("message"), "F3 missing event")
         self.assertEqual(by_name["gone"][0].tag, "error")
@@ -225,7 +226,10 @@ class Files(unittest.TestCase):
         self.assertEqual(said["version"], "2.1.0")
         (run,) = said["runs"]
         self.assertTrue(run["invocations"][0]["executionSuccessful"])
-        ids = [rule["id"] for rule in run["tool"]["driver"]["rules"]]
+        rules = {it["id"]: it["defaultConfiguration"] for it in run["tool"]["driver"]["rules"]}
+        ids = [*rules]
+        for rule, level in (("V7", "error"), ("V10", "warning"), ("V12", "note"), ("F3", "error")):
+            self.assertEqual(rules[rule], {"level": level})
         found = [
             (
                 it["ruleId"],
@@ -238,11 +242,11 @@ class Files(unittest.TestCase):
         ]
         trace = "traces/quinn_quic-go_loss.trace"
         self.assertEqual(
-            found, [("V7", "error", 4, trace, 13), ("V13", "error", 1, trace, 24)]
+            found, [("V7", "error", 4, trace, 13), ("V13", "note", 1, trace, 24)]
         )
         self.assertLessEqual({it["ruleId"] for it in run["results"]}, set(ids))
         text = run["results"][0]["message"]["text"]
-        self.assertIn("4 times, first at line 13. At most 1,740 B.", text)
+        self.assertIn("(RFC 9002, 7, MUST NOT) 4 times, first at line 13. At most 1,740 B.", text)
         self.assertNotIn("baselineState", run["results"][0])
 
     def test_sarif_of_what_is_known(self) -> None:
@@ -257,6 +261,33 @@ class Files(unittest.TestCase):
         self.assertEqual(found, {"new": ("error", 0), "unchanged": ("note", 1)})
         prints = {json.dumps(it["partialFingerprints"]) for it in results}
         self.assertEqual(len(prints), 2)
+
+    def test_levels_that_fail(self) -> None:
+        # V7 is a MUST, V13 described, V2 the format's, and F3 of a line that cannot be read.
+        traces = {"several-departures": (1, 1, 1), "ack-while-loss-owed": (0, 0, 1)}
+        traces |= {"ack-of-skipped-number": (0, 1, 1), "app-pto-early": (0, 0, 1)}
+        for name, wanted in traces.items():
+            shutil.copyfile(TRACES / f"{name}.trace", self.traces / "quinn_quic-go_loss.trace")
+            for fail_on, status in zip(("must", "should", "any"), wanted, strict=True):
+                with self.subTest(name, fail_on=fail_on):
+                    self.assertEqual(self.run_command("--fail-on", fail_on).returncode, status)
+        self.put("quinn_quic-go_loss", UNREADABLE)
+        self.assertEqual(self.run_command("--fail-on", "must").returncode, 2)
+
+    def test_levels_that_fail_among_new_violations(self) -> None:
+        self.known.write_text('{"version":1,"known":[]}')
+        path = self.traces / "quinn_quic-go_loss.trace"
+        shutil.copyfile(TRACES / "app-pto-early.trace", path)
+        words = ("--known", "known.json", "--junit", "junit.xml", "--annotate")
+        for fail_on, status, counts in (("should", 0, ("0", "1")), ("any", 1, ("1", "0"))):
+            ended = self.run_command(*words, "--fail-on", fail_on)
+            self.assertEqual(ended.returncode, status)
+            self.assertTrue(ended.stdout.startswith("::notice file="), ended.stdout)
+            suite = ElementTree.parse(self.folder / "junit.xml").getroot()[0]
+            self.assertEqual((suite.get("failures"), suite.get("skipped")), counts)
+        self.run_command(*words, "--fail-on", "should")
+        told = (self.folder / "junit.xml").read_text()
+        self.assertIn("below --fail-on should: V13 timer-early (described)", told)
 
     def test_what_is_accepted_with_allowances(self) -> None:
         shutil.copyfile(TRACES / "silence-past-a-pto.trace", self.traces / "quiet.trace")
@@ -423,6 +454,12 @@ class Recipes(unittest.TestCase):
         ended = self.run_script(audit, **{**names, "QAUDIT_KNOWN": str(known)})
         self.assertEqual(ended.returncode, 0, ended.stderr)
         self.assertIn("::notice file=", ended.stdout)
+        shutil.rmtree(self.folder / "logs")
+        (self.folder / "logs").mkdir()
+        shutil.copyfile(TRACES / "app-pto-early.trace", self.folder / "logs" / "own.trace")
+        for fail_on, status in (("must", 0), ("any", 1)):
+            ended = self.run_script(audit, **names, QAUDIT_FAIL_ON=fail_on)
+            self.assertEqual(ended.returncode, status, ended.stderr)
 
     def test_the_template_of_gitlab(self) -> None:
         install, audit = self.steps_of("ci/gitlab.yml")
@@ -434,6 +471,10 @@ class Recipes(unittest.TestCase):
         ended = self.run_script(audit, **names)
         self.assertEqual(ended.returncode, 1, ended.stderr)
         self.assertTrue((self.folder / "qaudit-results/junit.xml").exists())
+        shutil.rmtree(self.folder / "logs")
+        (self.folder / "logs").mkdir()
+        shutil.copyfile(TRACES / "app-pto-early.trace", self.folder / "logs" / "own.trace")
+        self.assertEqual(self.run_script(audit, **names, QAUDIT_FAIL_ON="should").returncode, 0)
 
 
 if __name__ == "__main__":

@@ -190,7 +190,7 @@ class Tables(unittest.TestCase):
         page = Page(self.table.read_text())
         self.assertIn("1 accepted, 1 refused", page.by_id["sum"])
         self.assertIn("V6 number-not-higher, line 3", page.by_id["table"])
-        self.assertIn("V6 number-not-higher1", page.by_id["rules"])
+        self.assertIn("V6 number-not-higherMUST1", page.by_id["rules"])
         self.assertIn("quinn \u2192 quic-go", page.by_id["table"])
         links = [it["href"] for tag, it in page.tags if tag == "a"]
         # The page of a refused trace opens at the refused line.

@@ -32,13 +32,15 @@ from tests.made import (
     unpacked,
 )
 
+from sources import SOURCES, VALUE_SOURCES
+
 from qaudit_page import payload, rows
 from qaudit_page.departures import departures_of, section_of
 from qaudit_page.failure import Failure, Status
 from qaudit_page.grounds import Basis
 from qaudit_page.program import PAST, Run, Verdict
 from qaudit_page.rows import AMOUNTS, Rows, rows_by
-from qaudit_page.rules import FAULTS, RULES
+from qaudit_page.rules import FAULTS, OF_FORMAT, RULES, VALUES, meaning_at, requirement_of
 from qaudit_page.texts import milliseconds, runs
 
 COMMAND = PAGE / "qaudit-page"
@@ -50,6 +52,8 @@ UNTOLD = {
     "rule",
     "name",
     "field",
+    "requirement",
+    "section",
     "event",
     "fault",
     "behind_header",
@@ -135,7 +139,8 @@ class Corpus(unittest.TestCase):
                 self.assertEqual(missing(verdict.said, trace.unit, told(page)), [])
                 self.assertIn(f"line {verdict.line:,}", page.by_id["p"])
                 self.assertIn(f"{verdict.rule} {verdict.name}", page.by_id["p"])
-                meaning = (RULES | FAULTS)[verdict.rule]
+                meaning = meaning_at(verdict.rule, str(verdict.said.get("field", "")))
+                assert meaning is not None
                 self.assertIn(meaning.sentence, page.by_id["p"])
                 self.assertIn(meaning.source, page.by_id["p"])
         self.assertEqual(met, (RULES.keys() | FAULTS.keys()) - {"F11"})
@@ -151,6 +156,24 @@ class Corpus(unittest.TestCase):
             with self.subTest(number):
                 page = machine if number.startswith("V") else form
                 self.assertRegex(page, rf"{number}\b[^\n]*{name}")
+
+    def test_levels_are_those_of_the_second_reading(self) -> None:
+        found = {f"{rule} {it.name}": (it.section, it.level) for rule, it in RULES.items()}
+        metric = found.pop("V16 metric")
+        self.assertEqual(metric, ("RFC 9002, 2, 5, 7", "described"))
+        found |= {f"V16 metric {name}": it for name, it in VALUES.items()}
+        wanted = {str(rule): it for rule, it in SOURCES.items()}
+        wanted |= {f"V16 metric {name}": it for name, it in VALUE_SOURCES.items()}
+        self.assertEqual(found.keys(), wanted.keys())
+        for name, source in wanted.items():
+            with self.subTest(name):
+                section = OF_FORMAT if source.level == "format" else source.section
+                self.assertEqual(found[name], (section, source.level))
+                number, kind, *field = name.split(" ")
+                said = {"rule": number, "name": kind} | {"field": it for it in field}
+                self.assertEqual(requirement_of(said), source.level.requirement)
+                other = said | {"requirement": "SHOULD"}
+                self.assertEqual(requirement_of(other), "SHOULD")
 
     def test_a_window_that_is_passed(self) -> None:
         data = joined(HEADER, *(sent(n) for n in range(10)), sent(10, 0, size=1252))
@@ -206,7 +229,8 @@ class Departures(unittest.TestCase):
         # The verdict, the longest silence, and the table; then come the silences.
         self.assertEqual(links[:7], [f"#line={line}" for line in (13, 24, 13, 15, 17, 22, 24)])
         told_of_all = " ".join(page.by_id["departures"].split())
-        self.assertIn("The sender breaks rules 5 times in 22 events.", told_of_all)
+        by_level = "(4 MUST, 1 described)"
+        self.assertIn(f"The sender breaks rules 5 times in 22 events {by_level}.", told_of_all)
         self.assertIn("Everything else in the trace follows RFC 9002.", told_of_all)
 
     def test_the_verdict_stays_the_first_departure(self) -> None:
@@ -611,7 +635,7 @@ class Commands(unittest.TestCase):
             broken.write_text(f"#!/bin/sh\n{text}\n")
             broken.chmod(0o755)
             self.fails(3, told_of, TRACES / "timer-late.trace", program=broken)
-        said = '{"file":"-","verdict":"refused","line":2,"rule":"V7","name":"past-window"}'
+        said = '{"file":"-","verdict":"refused","line":2,"rule":"V7","name":"past-window","requirement":"MUST","section":"RFC 9002, 7"}'
         asked = 'case "$*" in *--json*)'
         broken.write_text(f"#!/bin/sh\n{asked} echo '{said}';; esac\nexit 1\n")
         self.fails(3, "an unknown object", TRACES / "timer-late.trace", program=broken)

@@ -1,5 +1,6 @@
 pub mod Object
 pub mod Subjects
+pub mod Sources
 pub mod Losses
 pub mod Sending
 pub mod Deadlines

@@ -10,6 +10,7 @@ mod losses;
 mod object;
 mod reports;
 mod sending;
+mod sources;
 mod subjects;
 
 pub use deadlines::push_due;
@@ -17,4 +18,5 @@ pub use facts::push_facts;
 pub use losses::{push_owed, push_owed_runs};
 pub use object::Object;
 pub use sending::push_bytes;
+pub use sources::push_source;
 pub use subjects::push_subject;

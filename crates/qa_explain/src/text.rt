@@ -3,6 +3,7 @@
 
 mod deadlines;
 mod facts;
+mod levels;
 mod pieces;
 mod predicates;
 mod reports;
@@ -22,7 +23,8 @@ pub use reports::differs;
 pub use roundings::rounding_hint;
 pub use runs::push_owed;
 pub use sentences::push_sentence;
-pub use sources::source;
+pub use sources::push_source;
+pub(crate) use sources::{requirement, section};
 pub use subjects::push_subject;
 pub use times::push_time;
 pub use values::{held_of, is_in_bytes, push_amount, reported_of};

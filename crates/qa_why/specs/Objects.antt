@@ -17,6 +17,7 @@ use Rattle.qa_format.specs.format.Faults.{fault_name, fault_number, key_of}
 use Rattle.qa_explain.specs.members.Facts.{facts}
 use Rattle.qa_explain.specs.members.Losses.{owed}
 use Rattle.qa_explain.specs.members.Object.{flag_at, number_at, opened, string_at, text_of_all}
+use Rattle.qa_explain.specs.members.Sources.{source_members}
 use Rattle.qa_explain.specs.members.Subjects.{subject}
 use Rattle.qa_why.specs.Faults.{wanted}
 use Rattle.qa_why.specs.Hidden.{without_hidden}
@@ -51,11 +52,11 @@ abbrev pub field_at : Option Field → List Token
 field_at None = []
 field_at (Some f) = string_at (codes "field") (field_name f)
 
--- the rule by its number and its name, and the field that it is about
+-- the rule by its number and its name, the field that it is about, and where it stands
 unfoldable pub rule_members : Rule → List Token
 rule_members r =
     string_at (codes "rule") (codes "V" ++ decimal (rule_number r))
-    ++ string_at (codes "name") (rule_name r) ++ field_at (field_of r)
+    ++ string_at (codes "name") (rule_name r) ++ field_at (field_of r) ++ source_members r
 
 -- why line n is refused, which says an event that breaks a rule
 unfoldable pub refused_members : TimeUnit → ℕ → Rule → Event → Cause → List ℕ

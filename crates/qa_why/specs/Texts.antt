@@ -17,7 +17,7 @@ use Rattle.qa_explain.specs.text.Pieces.{named, numbered}
 use Rattle.qa_explain.specs.text.Roundings.{rounding_hint}
 use Rattle.qa_explain.specs.text.Runs.{owed_text}
 use Rattle.qa_explain.specs.text.Sentences.{sentence}
-use Rattle.qa_explain.specs.text.Sources.{source}
+use Rattle.qa_explain.specs.text.Sources.{source_text}
 use Rattle.qa_why.specs.Faults.{fault_sentence}
 use Rattle.qa_why.specs.Hints.{hint}
 use Rattle.qa_why.specs.Lines.{line_text}
@@ -49,7 +49,7 @@ refused_sentence u r e k = sentence u e r k ++ codes "\n"
 
 -- the facts, where the rule stands, and a hint where the value may be off by a rounding
 unfoldable pub grounds : TimeUnit → Rule → Event → Cause → List ℕ
-grounds u r e k = facts_text e k ++ source r ++ rounding_hint u e r k
+grounds u r e k = facts_text e k ++ source_text r ++ rounding_hint u e r k
 
 -- where in a log the line is from, by the key `x_place` that a converter of logs gives it
 abbrev pub place_text : List ℕ → List ℕ
@@ -69,7 +69,8 @@ refused_text name n u r e k l = broken_text (codes "refused") name n u r e k l
 
 -- V17: why a trace is refused that ends while a loss is owed, with its last event on line n
 unfoldable pub debt_tail : Owed → List ℕ
-debt_tail o = codes "the trace ends while a loss is owed\n" ++ owed_text o ++ source rule.OwedAtEnd
+debt_tail o =
+    codes "the trace ends while a loss is owed\n" ++ owed_text o ++ source_text rule.OwedAtEnd
 
 unfoldable pub owed_at_end_text : List ℕ → ℕ → Owed → List ℕ
 owed_at_end_text name n o = head name n (codes "refused") (rule_text rule.OwedAtEnd) ++ debt_tail o

@@ -6,7 +6,7 @@ use crate::faults::wanted;
 use crate::hidden::without_hidden;
 use crate::lines::extend;
 use qa_base::{Event, Field, Key, Rule, TimeUnit, Totals};
-use qa_explain::members::{Object, push_facts, push_owed, push_subject};
+use qa_explain::members::{Object, push_facts, push_owed, push_source, push_subject};
 use qa_format::Fault;
 use qa_ledger::{Cause, Owed};
 use std::alloc::{AllocError, Global};
@@ -71,7 +71,7 @@ fn push_field(object: &mut Object, field: Option<Field>) -> Result<(), AllocErro
     }
 }
 
-/// The rule by its number and its name, and the field that it is about.
+/// The rule by its number and its name, the field that it is about, and where it stands.
 #[tactic(auto, unfolding(crate::specs::Objects::rule_members))]
 pub fn push_rule(alloc: Global, object: &mut Object, rule: Rule) -> Result<(), AllocError>
     ensures { OnOk result (object.new ≡ object.old ++ text.rule_members rule) }
@@ -79,7 +79,8 @@ pub fn push_rule(alloc: Global, object: &mut Object, rule: Rule) -> Result<(), A
     let number = format!(in alloc; "V{}", rule.number())?;
     object.string("rule", number.as_str())?;
     object.string("name", rule.name())?;
-    push_field(object, rule.field())
+    push_field(object, rule.field())?;
+    push_source(object, rule)
 }
 
 /// Why line n is refused, which says an event that breaks a rule; times are in the unit.

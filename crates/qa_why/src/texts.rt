@@ -12,7 +12,8 @@ use crate::values::push_wrong_value;
 use qa_base::{Event, Rule, TimeUnit, Totals};
 use qa_check::shown_name;
 use qa_explain::text::{
-    push_facts, push_name, push_number, push_owed, push_sentence, push_words, rounding_hint, source,
+    push_facts, push_name, push_number, push_owed, push_sentence, push_source, push_words,
+    rounding_hint,
 };
 use qa_format::Fault;
 use qa_ledger::{Cause, Owed};
@@ -97,7 +98,7 @@ fn grounds(
 {
     let mut grounds = String::new(alloc);
     push_facts(&mut grounds, event, cause)?;
-    push_words(&mut grounds, source(rule))?;
+    push_source(&mut grounds, rule)?;
     push_words(&mut grounds, rounding_hint(unit, event, rule, cause))?;
     Ok(grounds)
 }
@@ -150,7 +151,7 @@ fn debt_tail(alloc: Global, owed: &Owed) -> Result<String, AllocError>
     let mut tail = String::new(alloc);
     push_words(&mut tail, "the trace ends while a loss is owed\n")?;
     push_owed(&mut tail, owed)?;
-    push_words(&mut tail, source(Rule::OwedAtEnd))?;
+    push_source(&mut tail, Rule::OwedAtEnd)?;
     Ok(tail)
 }
 

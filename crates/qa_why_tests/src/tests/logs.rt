@@ -17,7 +17,7 @@ const PAST: &str =
     "{\"qlog_version\":\"0.3\",\"qlog_format\":\"NDJSON\",\"trace\":{\"vantage_point\":{\"type\":\"client\"}}}\n{\"time\":0,\"name\":\"recovery:parameters_set\",\"data\":{\"max_datagram_size\":1200}}\n{\"time\":0,\"name\":\"transport:packet_sent\",\"data\":{\"header\":{\"packet_type\":\"1RTT\",\"packet_number\":0},\"raw\":{\"length\":12001},\"frames\":[{\"frame_type\":\"ping\"}]}}\n";
 
 const REFUSED: &str =
-    "a:2: refused V7 past-window: packet 0 of app takes the bytes in flight to 12001, past the window of 12000\n  2 | {\"eliciting\":true,\"event\":\"sent\",\"in_flight\":true,\"leave\":\"window\",\"number\":0,\"size\":12001,\"space\":\"app\",\"time\":0,\"x_place\":\"line 3\"}\n  in the log: line 3\n  in flight 0 + 12001 = 12001, window 12000\n  RFC 9002, 7: a sender must not send past its congestion window.\n  guessed on line 1: max_ack_delay: 25 ms, for the peer's is not logged\n  guessed on line 1: window: newreno, for no window is logged\n";
+    "a:2: refused V7 past-window: packet 0 of app takes the bytes in flight to 12001, past the window of 12000\n  2 | {\"eliciting\":true,\"event\":\"sent\",\"in_flight\":true,\"leave\":\"window\",\"number\":0,\"size\":12001,\"space\":\"app\",\"time\":0,\"x_place\":\"line 3\"}\n  in the log: line 3\n  in flight 0 + 12001 = 12001, window 12000\n  RFC 9002, 7, MUST NOT: send past the congestion window: the reported one, or else the window of NewReno, as this model has it.\n  guessed on line 1: max_ack_delay: 25 ms, for the peer's is not logged\n  guessed on line 1: window: newreno, for no window is logged\n";
 
 /// A packet past the last time of a trace, which is 10^15 microseconds.
 const LATE: &str =

@@ -10,7 +10,7 @@ pub returns-in_err-give-2-clause-written : goal.returns-in_err-give-2-clause-wri
 returns-in_err-give-2-clause-written g c =
     let held = g.O.Sink.held in
     let failures = g.O.Sink.write_failures in
-    rw (fails_as true c.from_residual-in_err-give-2.result c.in_err-give-2.field-0.0 c.from_residual-in_err-give-2.ensures.1 c.in_err-give-2.ensures.write)
+    rw (fails_as true c.from_residual-in_err-give-2.result c.from_residual-in_err-give-2.ensures.1)
     (more_lines true (held c.args.output.now, failures c.args.output.now) (held c.lines.output, failures c.lines.output)
     (held c.give-in-lines.new.output, failures c.give-in-lines.new.output) c.lines.invariant.written c.in_err-give-2.ensures.written)
 

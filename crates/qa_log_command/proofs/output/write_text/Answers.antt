@@ -4,8 +4,8 @@ use Rattle.qa_check.proofs.Reading.{write_step}
 use Rattle.qa_check.proofs.Writing.{begins_taken}
 use Rattle.qa_log_command.proofs.output.write_text.Goals as goal
 
-pub returns-in_err-count-clause-written : goal.returns-in_err-count-clause-written
-returns-in_err-count-clause-written g c = rw c.from_residual.ensures.0 (record {
+pub returns-in_err-count : goal.returns-in_err-count
+returns-in_err-count g c = rw c.from_residual.ensures.0 (record {
   wrote = begins_taken _ _ _ (_, Appends-kept _ _ _ _ c.loop-at.invariant.written c.in_err-count.ensures.unwritten);
   counted = rw c.loop-at.invariant.unfailed at c.in_err-count.ensures.failures;
 })

@@ -1,5 +1,0 @@
-use Rattle.std.proofs.Common.{length}
-use Rattle.lines.proofs.answer_lines.Given as goal
-
-abbrev pub decreases-lines : goal.decreases-lines
-decreases-lines g l = length l.lines.bytes
