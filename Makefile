@@ -31,7 +31,7 @@ checks := links made_up contracts crates words wrong levels rfc9002 minutes
 # The tests of the programs of conformance/, which mostly wait for one another's processes.
 runner_tests := test_run test_trials test_allowed test_mutations test_rows test_departures test_simulate test_links test_made_up \
 	test_contracts test_crates test_levels test_unproved test_words test_commands test_lost_lines test_rfc9002 test_surroundings \
-	test_terminals
+	test_terminals test_converts
 # Those of programs that run before a release, which `make sweeps` runs.
 release_tests := test_edits test_bindings test_recipes test_fuzz_library test_release
 # All that need no program of ours and no browser, but for the checks.
@@ -45,7 +45,7 @@ tests_in_python := $(tests_of_pages) $(tests_beside_the_gate) $(checks)
 
 # All programs in Python, by the places where their names are unlike each other.
 python := $(addprefix conformance/,allocations contracts crates cuts failing fuzz_library large levels library links log_refusals made_up malicious memory mutations reasons recipes \
-	logs refusals rfc9002 run side_by_side simulate unproved words wrong commands) \
+	logs converts refusals rfc9002 run side_by_side simulate unproved words wrong commands) \
 	conformance/fuzz/instrument conformance/lines/make.py $(wildcard conformance/*.py)
 python_of_fuzz := conformance/fuzz/run
 # The pages, and what measures and tests them.
@@ -70,7 +70,7 @@ every := --every 7
 conformance := conformance-cuts conformance-failing conformance-refusals conformance-simulate conformance-mutations \
 	conformance-malicious conformance-large conformance-run conformance-reasons conformance-rows conformance-departures \
 	conformance-allocations conformance-memory conformance-side-by-side conformance-converted conformance-logs \
-	conformance-log-refusals
+	conformance-log-refusals conformance-converts
 
 # What is handed to the library for C, in each language.
 bindings := conformance-library conformance-recipes bindings-rust bindings-go bindings-python
@@ -234,6 +234,10 @@ conformance-memory:
 # Both converters, over the real logs here and over some hundred that nobody would write.
 conformance-converted:
 	conformance/qlog/compare --native $(program_of_logs) --mutations 600
+
+# The converter over logs whose traces were written by hand.
+conformance-converts:
+	conformance/converts $(program_of_logs)
 
 # `qaudit-why` over logs, beside the converter.
 conformance-logs:

@@ -29,6 +29,8 @@ pub struct Trace {
     connections: u64,
     /// Whether the log is torn off, so far as it is one object.
     is_torn: bool,
+    /// At which byte it is, if so.
+    torn_at: Option<u64>,
     /// Whether the line of the header was not given away yet.
     has_header: bool,
     records: Written,
@@ -69,6 +71,7 @@ impl Trace {
             chosen,
             connections,
             is_torn: log.torn_at.is_some(),
+            torn_at: log.torn_at,
             has_header: true,
             records: Written {
                 second,
@@ -117,6 +120,10 @@ impl Trace {
     /// trace, and why a refusal may be due to the reading of the log.
     pub fn told(&self) -> Result<Vec<String>, AllocError> {
         let mut told = self.records.unread.told(self.alloc)?;
+        if let Some(byte) = self.torn_at {
+            let text = format!(in self.alloc; "torn off at byte {byte}; the trace ends there")?;
+            told.push(text)?;
+        }
         if let Some(text) = others(self.alloc, self.chosen.count, self.chosen.number, "traces")? {
             told.push(text)?;
         }

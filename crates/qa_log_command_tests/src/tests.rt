@@ -1,4 +1,0 @@
-//! What no clause says of the command.
-mod asking;
-mod failing;
-mod running;

@@ -1,0 +1,4 @@
+//! What only the functions show.
+mod files;
+mod lengths;
+mod streams;
