@@ -46,7 +46,9 @@ class ConvertsTest(RunnerCase):
         self.write_case("two", trace=b"0", error=said, **two)
         self.write_case("version", args=b"--version\n", trace=b"1.0\n")
 
-    def write(self, before: str = "", piece: str = "", trace: str = "", status: str = STATUS) -> None:
+    def write(
+        self, before: str = "", piece: str = "", trace: str = "", status: str = STATUS
+    ) -> None:
         """Writes a converter, with what it does besides."""
         self.write_program(HONEST.format(before=before, piece=piece, trace=trace, status=status))
 

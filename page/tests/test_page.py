@@ -635,7 +635,10 @@ class Commands(unittest.TestCase):
             broken.write_text(f"#!/bin/sh\n{text}\n")
             broken.chmod(0o755)
             self.fails(3, told_of, TRACES / "timer-late.trace", program=broken)
-        said = '{"file":"-","verdict":"refused","line":2,"rule":"V7","name":"past-window","requirement":"MUST","section":"RFC 9002, 7"}'
+        said = (
+            '{"file":"-","verdict":"refused","line":2,"rule":"V7","name":"past-window",'
+            '"requirement":"MUST","section":"RFC 9002, 7"}'
+        )
         asked = 'case "$*" in *--json*)'
         broken.write_text(f"#!/bin/sh\n{asked} echo '{said}';; esac\nexit 1\n")
         self.fails(3, "an unknown object", TRACES / "timer-late.trace", program=broken)
