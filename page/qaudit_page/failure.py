@@ -23,3 +23,12 @@ class Failure(Exception):
     def __init__(self, text: str, status: Status = Status.FAULT) -> None:
         super().__init__(text)
         self.status = status
+
+
+class NoTraceError(Failure):
+    """A file that gives no trace: a log, as the converter says it, or an archive that is not
+    whole."""
+
+    def __init__(self, name: str, reason: str) -> None:
+        super().__init__(f"{name}: {reason}", Status.UNSHOWN)
+        self.reason = reason

@@ -7,7 +7,7 @@ from collections.abc import Iterator
 from pathlib import Path
 from typing import IO, BinaryIO, cast
 
-from .failure import Failure, Status
+from .failure import Failure, NoTraceError, Status
 from .streams import put
 from .unpacking import NoProgram, Unusable, unpacked
 
@@ -99,9 +99,10 @@ def beginning(file: IO[bytes], name: str, most: int) -> bytes:
     try:
         with unpacked(cast(BinaryIO, file)) as plain:
             return plain.read(most)
+    except NoProgram as fault:
+        raise Failure(f"{name}: {fault}") from fault
     except Unusable as fault:
-        status = Status.FAULT if isinstance(fault, NoProgram) else Status.UNSHOWN
-        raise Failure(f"{name}: {fault}", status) from fault
+        raise NoTraceError(name, str(fault)) from fault
     except OSError as fault:
         raise Failure(f"cannot read {name}: {reason_of(fault)}") from fault
 

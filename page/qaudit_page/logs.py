@@ -9,8 +9,8 @@ from pathlib import Path
 from typing import IO, BinaryIO, cast
 
 from .conversion import object_of
-from .converter import Asked, NoTraceError, trace_of
-from .failure import Failure
+from .converter import Asked, trace_of
+from .failure import Failure, NoTraceError
 from .files import as_text, beginning, contents, opened_again, reason_of
 from .netlogs import Qlog
 from .texts import visible

@@ -11,8 +11,8 @@ from urllib.parse import quote
 
 from .banner import AMBER, MARKS
 from .conversion import FIRST_LINES, notes_of, object_of
-from .converter import Asked, NoTraceError
-from .failure import Failure
+from .converter import Asked
+from .failure import Failure, NoTraceError
 from .files import as_text, read, write
 from .grounds import Basis, Ground, basis_of
 from .library import resource

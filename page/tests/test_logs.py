@@ -34,8 +34,8 @@ from tests.test_input import NO_ZSTD, zstd
 
 from qaudit_page import converter, logs
 from qaudit_page.alignment import End, alignment_of
-from qaudit_page.converter import Asked, NoTraceError, check, options_of
-from qaudit_page.failure import Failure, Status
+from qaudit_page.converter import Asked, check, options_of
+from qaudit_page.failure import Failure, NoTraceError, Status
 from qaudit_page.lenient import SPACES
 from qaudit_page.page import audited
 from qaudit_page.places import Place, place_of, places_of
@@ -606,7 +606,7 @@ class Tables(InFolder):
         at = text.index('{"time": 1')
         told = self.run_command("--sarif", "sarif.json", "--annotate")
         self.assertEqual(self.results()["bad"]["place"], f"byte {at} of the log")
-        self.assertIn("error file=logs/bad.sqlog,title=qaudit V6 number-not-higher::", told)
+        self.assertIn("error file=logs/bad.sqlog,title=qaudit V6 number-not-higher (MUST)::", told)
         self.assertIn(f"(Line 3 of the trace that this log gives: byte {at} of the log.)", told)
         said = json.loads((self.folder / "sarif.json").read_text())["runs"][0]["results"][0]
         region = said["locations"][0]["physicalLocation"]["region"]
