@@ -12,5 +12,15 @@ if find_spec("netlog_to_qlog") is None:
 from netlog_to_qlog.compressed import decompressed, unpacked  # noqa: E402
 from netlog_to_qlog.errors import NoProgram, Unusable  # noqa: E402
 from netlog_to_qlog.netlog import is_netlog, looked_at  # noqa: E402
+from netlog_to_qlog.unchanged import Changed, unchanged  # noqa: E402
 
-__all__ = ["NoProgram", "Unusable", "decompressed", "is_netlog", "looked_at", "unpacked"]
+__all__ = [
+    "Changed",
+    "NoProgram",
+    "Unusable",
+    "decompressed",
+    "is_netlog",
+    "looked_at",
+    "unchanged",
+    "unpacked",
+]
