@@ -11,7 +11,7 @@ from collections.abc import Callable, Iterator
 from contextlib import AbstractContextManager, contextmanager, nullcontext
 from typing import IO, TYPE_CHECKING, BinaryIO, NamedTuple
 
-from .errors import NoProgram, Unusable
+from .errors import NoMemory, NoProgram, Unusable
 from .streams import COPIED_AT_ONCE
 
 if TYPE_CHECKING:
@@ -69,7 +69,7 @@ def unpacked(file: BinaryIO) -> Iterator[IO[bytes]]:
     except MemoryError as error:
         if not name:
             raise
-        raise Unusable(f"it takes more memory than there is, as {name} data") from error
+        raise NoMemory(f"it takes more memory than there is, as {name} data") from error
 
 
 def read_by(name: str, file: BinaryIO) -> AbstractContextManager[IO[bytes]]:

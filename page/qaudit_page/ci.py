@@ -21,7 +21,7 @@ from .rules import (
     is_counted,
     requirement_of,
 )
-from .texts import count, visible
+from .texts import count, harmless, visible
 from .version import version
 from .violations import Violation
 
@@ -275,9 +275,9 @@ def annotations(listed: Listed) -> str:
 def annotation(level: str, path: str, line: int, title: str, text: str) -> str:
     """A command that shows a text at a line of a file."""
     place = f",line={line}" if line else ""
-    names = f"file={escaped(path, ANNOTATED_NAMES)}{place}"
-    title = escaped(visible(title), ANNOTATED_NAMES)
-    return f"::{level} {names},title={title}::{escaped(visible(text), ANNOTATED)}"
+    names = f"file={escaped(harmless(path), ANNOTATED_NAMES)}{place}"
+    title = escaped(harmless(title), ANNOTATED_NAMES)
+    return f"::{level} {names},title={title}::{escaped(harmless(text), ANNOTATED)}"
 
 
 def escaped(text: str, by: dict[str, str]) -> str:

@@ -10,11 +10,19 @@ from typing import IO, BinaryIO, cast
 
 from .conversion import object_of
 from .converter import Asked, trace_of
-from .failure import Failure, NoTraceError
-from .files import as_text, beginning, contents, opened_again, reason_of
+from .failure import Failure, NoTraceError, reason_of
+from .files import as_text, beginning, contents, opened_again
 from .netlogs import Qlog
 from .texts import visible
-from .unpacking import Changed, Unusable, decompressed, is_netlog, unchanged
+from .unpacking import (
+    Changed,
+    NoMemory,
+    NoProgram,
+    Unusable,
+    decompressed,
+    is_netlog,
+    unchanged,
+)
 
 # How the names of logs end.
 ENDINGS = (".qlog", ".sqlog", ".netlog", ".netlog.json")
@@ -90,6 +98,8 @@ def converted(file: IO[bytes], name: str, asked: Asked) -> Taken:
             if is_netlog(log.read(BEGINNING)):
                 return converted_netlog(log, name, asked)
             data, told = trace_of(log, name, asked)
+    except (NoMemory, NoProgram) as fault:
+        raise Failure(f"{name}: {fault}") from fault
     except Unusable as fault:
         raise NoTraceError(name, visible(str(fault))) from fault
     except OSError as fault:

@@ -596,7 +596,7 @@ class Tables(InFolder):
         self.run_command("--known", "known.json", status=0)
         (self.logs / "none.qlog").write_bytes(b'{"traces":[]}')
         told = self.run_command("--known", "known.json", status=1)
-        self.assertEqual(told, "none: new violation log not-converted\n")
+        self.assertEqual(told, "qaudit-matrix: none: new violation log not-converted\n")
 
     def test_places_of_bytes(self) -> None:
         records = json.dumps([left(0, 0), left(1, 0)])
