@@ -78,7 +78,8 @@ class Result:
     is_page_lost: bool = False
     # Whether it is refused, and the conversion of its log may be the cause.
     is_doubtful: bool = False
-    # The path of the trace, and every violation in it, if they were asked for.
+    # The path of the trace, as the system has it, and every violation in it, if they were asked
+    # for.
     trace: str = ""
     violations: tuple[Violation, ...] = ()
     # What an accepted verdict rests on, and whether that is more than RFC 9002 leaves to a sender.
@@ -90,6 +91,11 @@ class Result:
     log_lacks: tuple[str, ...] = ()
     log_notes: tuple[str, ...] = ()
     places: dict[int, Place] = field(default_factory=dict)
+
+    @property
+    def file(self) -> str:
+        """The path of the trace as text."""
+        return as_text(Path(self.trace))
 
     @property
     def place(self) -> str:
@@ -151,7 +157,7 @@ def judged(job: Job) -> Result:
         requirement=requirement_of(verdict.said),
         page=str(job.page or ""),
         is_doubtful=verdict.kind == "refused" and bool(found.notes),
-        trace=as_text(job.trace),
+        trace=str(job.trace),
         violations=violations,
         grounds=grounds,
         with_allowances=is_accepted and basis.is_amber,
@@ -204,7 +210,7 @@ def shown_on(job: Job, page: Path) -> Found:
 def unshown(job: Job, fault: Exception) -> Result:
     """What became of a trace that has no page: its verdict, where there is one."""
     if job.page is None:
-        return Result(job.key, FAILED, fault=why(fault), trace=as_text(job.trace))
+        return Result(job.key, FAILED, fault=why(fault), trace=str(job.trace))
     found = judged(replace(job, page=None))
     if found.fault:
         return found
@@ -222,7 +228,7 @@ def unconverted(job: Job, failure: NoTraceError) -> Result:
         rule=violation.rule,
         name=violation.name,
         fault=failure.reason,
-        trace=as_text(job.trace),
+        trace=str(job.trace),
         violations=(violation,) if job.is_whole else (),
         is_log=True,
     )

@@ -328,7 +328,7 @@ def main() -> Status:
     if before is not None:
         tell(changes or [], before)
     lost = [it for it in results if it.is_page_lost]
-    say_some(f"{it.trace}: {it.fault}" for it in lost)
+    say_some(f"{it.file}: {it.fault}" for it in lost)
     if lost or not search.is_whole:
         return Status.FAULT
     return status_of(results, changes, new, given.fail_on)

@@ -7,7 +7,6 @@ from collections.abc import Iterable, Iterator, Sequence
 from multiprocessing.connection import Connection, wait
 
 from .failure import Failure, Status, reason_of
-from .files import as_text
 from .matrix import FAILED, Job, Result, judged
 from .streams import follow, without_interrupts
 
@@ -127,4 +126,4 @@ class Pool:
 
 def killed(job: Job) -> Result:
     """What became of a trace that no process lived to audit."""
-    return Result(job.key, FAILED, fault=KILLED, trace=as_text(job.trace))
+    return Result(job.key, FAILED, fault=KILLED, trace=str(job.trace))

@@ -85,6 +85,10 @@ class Parts(unittest.TestCase):
     def test_uris(self) -> None:
         self.assertEqual(uri("a b/#.trace"), "a%20b/%23.trace")
         self.assertEqual(uri("/a b"), "file:///a%20b")
+        # A byte that is no UTF-8, and the text that it is shown as.
+        self.assertEqual(uri(os.fsdecode(b"\xff")), "%FF")
+        self.assertEqual(uri(os.fsdecode(b"/\xff")), "file:///%FF")
+        self.assertEqual(uri("\\xff"), "%5Cxff")
 
 
 class Files(unittest.TestCase):
