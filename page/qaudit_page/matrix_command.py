@@ -47,11 +47,11 @@ directory it finds each file, at any depth, that ends in .trace, .qlog, .sqlog, 
 .netlog.json, and with .gz, .xz or .zst after that. A log beside its own trace (x.sqlog and x.trace)
 is left out: the trace counts. Logs are converted by qlog-to-trace."""
 ENDING = """\
-The exit status is 0 if all are accepted, 1 if one is refused, 2 if one cannot be read, 3 if a file
-or a program is missing or failed, and 64 if the arguments are wrong. With --against it is 0 if
-nothing is refused that was not before, and 1 if something is, or by another rule. With --known it
-is 0 if every violation is known, and 1 if one is new. With --fail-on must or should violations of
-what the RFC says more weakly are shown, but do not make it 1."""
+The exit status is 0 if all are accepted, 1 if one is refused, 2 if one cannot be read, 3 if a file,
+a directory, a page or a program failed, and 64 if the arguments are wrong. With --against it is 0
+if nothing is refused that was not before, and 1 if something is, or by another rule. With --known
+it is 0 if every violation is known, and 1 if one is new. With --fail-on must or should violations
+of what the RFC says more weakly are shown, but do not make it 1."""
 NAME = "qaudit-matrix"
 WIDTH = 40
 # Of what is passed over, and of pages that are not written, so many have a line.

@@ -55,7 +55,8 @@ class Worker:
         """What became of its trace; None if the process ended before it was done."""
         try:
             result: Result = self.connection.recv()
-        except (EOFError, OSError):
+        except Exception:
+            # It is not there, or only a part of it.
             return None
         return result
 
