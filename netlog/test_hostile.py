@@ -9,6 +9,7 @@ import unittest
 from itertools import islice
 from pathlib import Path
 from typing import BinaryIO
+from unittest import mock
 
 from made_netlogs import REAL, REFERENCE, TYPES, End, acked, event, netlog, sent
 
@@ -90,9 +91,8 @@ class Hostile(unittest.TestCase):
             os.truncate(file.name, Path(file.name).stat().st_size - 1)
             return found
 
-        self.addCleanup(setattr, command, "looked_at", command.looked_at)
-        command.looked_at = looked_at
-        found = End(netlog(sent(0, 1))).qlog
+        with mock.patch.object(command, "looked_at", looked_at):
+            found = End(netlog(sent(0, 1))).qlog
         told = "netlog-to-qlog: LOG: the file changed while it was read\n"
         self.assertEqual((found.status, found.errors), (3, told))
 

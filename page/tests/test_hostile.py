@@ -13,11 +13,11 @@ import time
 import unittest
 import zlib
 from contextlib import redirect_stderr
-from functools import partial
 from io import StringIO
 from itertools import permutations
 from pathlib import Path
 from typing import Any
+from unittest import mock
 
 from tests.made import (
     CONVERTER,
@@ -174,9 +174,7 @@ class Changing(Tables):
             trace.write_bytes(BAD)
             return known(first)
 
-        self.addCleanup(setattr, logs, "is_log", known)
-        logs.is_log = changing
-        with self.assertRaises(Failure) as raised:
+        with mock.patch.object(logs, "is_log", changing), self.assertRaises(Failure) as raised:
             logs.taken(trace, Asked())
         wanted = f"{trace}: the file changed while it was read"
         self.assertEqual((str(raised.exception), raised.exception.status), (wanted, Status.FAULT))
@@ -363,8 +361,9 @@ class Folders(Tables):
             os.mkdir("d", dir_fd=here)
             inner = os.open("d", os.O_RDONLY, dir_fd=here)
             if depth == 1_500:
-                with open("deep.trace", "wb", opener=partial(os.open, dir_fd=inner)) as file:
-                    file.write(BAD)
+                file = os.open("deep.trace", os.O_WRONLY | os.O_CREAT, dir_fd=inner)
+                os.write(file, BAD)
+                os.close(file)
             os.close(here)
             here = inner
         os.close(here)
@@ -470,16 +469,17 @@ class Written(Tables):
 
     def test_it_is_on_the_disk_before_it_has_its_name(self) -> None:
         calls: list[str] = []
-        for module, name in ((os, "fsync"), (Path, "replace")):
-            real = getattr(module, name)
-            self.addCleanup(setattr, module, name, real)
+        real = Path.replace
 
-            def noted(*words: Any, real: Any = real, name: str = name) -> Any:
-                calls.append(name)
-                return real(*words)
+        def moved(path: Path, target: Path) -> Path:
+            calls.append("replace")
+            return real(path, target)
 
-            setattr(module, name, noted)
-        files.replace(self.folder / "file", b"data")
+        with (
+            mock.patch.object(os, "fsync", lambda _: calls.append("fsync")),
+            mock.patch.object(Path, "replace", moved),
+        ):
+            files.replace(self.folder / "file", b"data")
         self.assertEqual(calls, ["fsync", "replace"])
 
     def test_an_interrupt_while_a_command_is_imported(self) -> None:
