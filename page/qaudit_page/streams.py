@@ -10,7 +10,7 @@ import signal
 import sys
 from collections.abc import Callable, Iterator
 from concurrent.futures import Future, ProcessPoolExecutor
-from contextlib import contextmanager
+from contextlib import contextmanager, suppress
 from mmap import mmap
 from threading import Thread
 from typing import TextIO
@@ -154,7 +154,9 @@ def workers_of(count: int, shared: mmap | None = None) -> Iterator[ProcessPoolEx
             worker.kill()
         raise
     finally:
-        pool.shutdown(cancel_futures=True)
+        # Of one whose thread could not start this fails too, and what it says tells less.
+        with suppress(RuntimeError):
+            pool.shutdown(cancel_futures=True)
 
 
 def say(name: str, text: str) -> None:
