@@ -16,10 +16,10 @@ FORK = multiprocessing.get_context("fork")
 
 def work(parent: int, own: Connection, others: Sequence[Connection]) -> None:
     """What a process does: it audits each trace that it is given."""
-    follow(parent, None)
-    for connection in others:
-        connection.close()
     try:
+        follow(parent, None)
+        for connection in others:
+            connection.close()
         while True:
             own.send(judged(own.recv()))
     except Exception:

@@ -530,6 +530,13 @@ class Pages(Tables):
         self.check(ended, 3, told)
         self.assertEqual(list((self.folder / "pages").iterdir()), [])
 
+    def test_a_damaged_archive_has_none(self) -> None:
+        path = self.put("part.trace.xz", lzma.compress(GOOD) + b"more")
+        command = [sys.executable, PAGE / "qaudit-page", *PROGRAMS, path]
+        ended = subprocess.run(list(map(str, command)), capture_output=True, check=False)
+        told = f"qaudit-page: {path}: broken or not whole, as xz data\n"
+        self.assertEqual((ended.returncode, ended.stdout, ended.stderr.decode()), (2, b"", told))
+
     def test_two_traces_never_share_a_page(self) -> None:
         for name in ("a b", "a-b-2"):
             self.put(f"{name}.trace", GOOD)
