@@ -43,6 +43,9 @@ GOOD = joined(HEADER, sent(0))
 BAD = joined(HEADER, sent(0), sent(0))
 SECONDS = 60
 NOBODY = 65_534
+# One that may be run by who may not look into the home of root.
+PYTHON = "/usr/bin/python3"
+NO_NOBODY = f"nobody cannot run the command by {PYTHON}"
 
 
 def as_nobody(most: int = 0) -> dict[str, Any]:
@@ -57,7 +60,17 @@ def as_nobody(most: int = 0) -> dict[str, Any]:
         os.setuid(NOBODY)
 
     path = {"PATH": "/usr/bin:/bin"}
-    return {} if os.geteuid() else {"preexec_fn": change, "python": "/usr/bin/python3", "env": path}
+    return {} if os.geteuid() else {"preexec_fn": change, "python": PYTHON, "env": path}
+
+
+def may_nobody_run() -> bool:
+    """Whether there is a Python that `nobody` may run, and this package for it."""
+    options = as_nobody()
+    words = [options.pop("python", sys.executable), str(COMMAND), "--version"]
+    try:
+        return not subprocess.run(words, capture_output=True, check=False, **options).returncode
+    except (OSError, subprocess.SubprocessError):
+        return False
 
 
 class Tables(InFolder):
@@ -100,6 +113,8 @@ class Tables(InFolder):
 
     def check_as_nobody(self, secret: Path, *words: object) -> None:
         """Somebody who cannot list a folder is told so, with status 3."""
+        if not may_nobody_run():
+            self.skipTest(NO_NOBODY)
         if os.geteuid():
             secret.chmod(0)
             self.addCleanup(secret.chmod, 0o700)
@@ -248,6 +263,8 @@ class Limits(Tables):
 
     @unittest.skipIf(os.geteuid(), "only root can run a process as somebody who has no other")
     def test_few_processes(self) -> None:
+        if not may_nobody_run():
+            self.skipTest(NO_NOBODY)
         self.folder.chmod(0o777)
         told = "cannot start a process: resource temporarily unavailable"
         self.check(self.run_command("--jobs", 4, **as_nobody(1)), 3, told)
