@@ -132,11 +132,15 @@ class Job:
     is_whole: bool = False
     # How a log is converted.
     asked: Asked = Asked()
+    # Whether it was found in a directory, where a pipe is not waited for.
+    is_found: bool = False
 
 
 def judged(job: Job) -> Result:
     """Audits a trace, and writes its page where one is asked for."""
     try:
+        if job.is_found:
+            check_is_file(job.trace, "open")
         found = looked_at(job) if job.page is None else shown_on(job, job.page)
         violations = violations_of(found.verdict) if job.is_whole else ()
     except NoTraceError as failure:
@@ -168,6 +172,12 @@ def judged(job: Job) -> Result:
     )
 
 
+def check_is_file(path: Path, verb: str) -> None:
+    """Failure if a path is one of something that is no file, as it may have become meanwhile."""
+    if path.exists() and not path.is_file():
+        raise Failure(f"cannot {verb} {as_text(path)}: it is no regular file")
+
+
 @dataclass(frozen=True)
 class Found:
     """What a trace comes to: the verdict, what it rests on, and what is said of the conversion."""
@@ -197,8 +207,7 @@ def looked_at(job: Job) -> Found:
 
 def shown_on(job: Job, page: Path) -> Found:
     """What a trace comes to whose page is written."""
-    if page.exists() and not page.is_file():
-        raise Failure(f"cannot write {as_text(page)}: it is no regular file")
+    check_is_file(page, "write")
     # Other traces have the other processors.
     asked = job.asked._replace(is_shown=True)
     wanted = Wanted(job.trace, job.program, job.dygraphs, job.key, readers=0, asked=asked)

@@ -154,14 +154,15 @@ def jobs_of(given: argparse.Namespace, search: Search) -> list[Job]:
     """A job for each trace; no two have one key or one page."""
     # A name that a file has is never the key of another one that has to be told from its like.
     keys, pages = Free(name for _, name in search.found), Free([])
-    jobs = []
+    jobs, named = [], set(given.traces)
     for trace, name in search.found:
         key, page = keys.name(name, "{} ({})"), None
         if given.pages:
             plain = BAD_IN_NAMES.sub("-", name).strip("-.")[:150] or "trace"
             page = given.pages / f"{pages.name(plain, '{}-{}')}.html"
         asked = Asked(given.converter, given.convert)
-        job = Job(trace, key, page, given.program, given.dygraphs, is_whole(given), asked)
+        is_found = trace not in named
+        job = Job(trace, key, page, given.program, given.dygraphs, is_whole(given), asked, is_found)
         jobs.append(job)
     return jobs
 

@@ -35,6 +35,7 @@ from tests.test_logs import GOOD as LOG
 from qaudit_page import files, logs
 from qaudit_page.converter import Asked
 from qaudit_page.failure import Failure, Status
+from qaudit_page.matrix import Job, judged
 from qaudit_page.matrix_command import Free
 from qaudit_page.streams import ended
 
@@ -345,6 +346,13 @@ class Folders(Tables):
         ]
         self.check(self.run_command(), 0, *told)
         self.assertEqual(self.kinds(), {"good": "accepted"})
+
+    def test_a_pipe_that_was_a_file_when_it_was_found(self) -> None:
+        pipe = self.folder / "pipe.trace"
+        os.mkfifo(pipe)
+        result = judged(Job(pipe, "pipe", program=PROGRAM, is_found=True))
+        wanted = f"cannot open {pipe}: it is no regular file"
+        self.assertEqual((result.kind, result.fault), ("failed", wanted))
 
     def test_a_pipe_that_is_named(self) -> None:
         os.mkfifo(self.logs / "pipe.trace")
