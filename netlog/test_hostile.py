@@ -1,14 +1,19 @@
 """Netlogs that nobody would write, by themselves and as traces."""
 
 import json
+import os
 import random
 import sys
 import time
 import unittest
 from itertools import islice
+from pathlib import Path
+from typing import BinaryIO
+from unittest import mock
 
 from made_netlogs import REAL, REFERENCE, TYPES, End, acked, event, netlog, sent
 
+from netlog_to_qlog import command
 from netlog_to_qlog import netlog as reading
 
 sys.path.append(str(REFERENCE))
@@ -79,6 +84,17 @@ class Hostile(unittest.TestCase):
         sessions = [sent(0, 1, source=number) for number in range(3)]
         self.assertEqual(End(netlog(*sessions[:2])).qlog.status, 0)
         self.refused(netlog(*sessions), "a netlog of more than 2 sessions")
+
+    def test_a_netlog_that_changes_between_its_readings(self) -> None:
+        def looked_at(file: BinaryIO) -> reading.Netlog:
+            found = reading.looked_at(file)
+            os.truncate(file.name, Path(file.name).stat().st_size - 1)
+            return found
+
+        with mock.patch.object(command, "looked_at", looked_at):
+            found = End(netlog(sent(0, 1))).qlog
+        told = "netlog-to-qlog: LOG: the file changed while it was read\n"
+        self.assertEqual((found.status, found.errors), (3, told))
 
     def test_names_of_frames(self) -> None:
         names = {f"QUIC_SESSION_{it}_FRAME_SENT": at for at, it in ((20, "\ud800"), (21, "X" * 99))}

@@ -6,9 +6,10 @@ from typing import BinaryIO
 from . import streams
 from .compressed import decompressed
 from .errors import Unusable
-from .netlog import is_netlog, looked_at
+from .netlog import Netlog, is_netlog, looked_at
 from .program import BAD_INPUT, FAILED, Parser, Program
 from .scanner import LONGEST_RECORD
+from .unchanged import Changed, unchanged
 from .version import version
 
 PROGRAM = Program("netlog-to-qlog")
@@ -54,15 +55,25 @@ def check(file: BinaryIO) -> None:
         raise Unusable("no netlog of Chromium" if first else "empty")
 
 
+def converted(source: BinaryIO) -> Netlog:
+    """Writes the qlog of an open netlog to standard output. It is read twice, so it may not change
+    meanwhile."""
+    with unchanged(source), decompressed(source) as file:
+        streams.put("")
+        check(file)
+        netlog = looked_at(file)
+        netlog.write(lambda text, _: streams.write(text))
+        streams.put("")
+    return netlog
+
+
 def write_qlog(wanted: str | None, name: str) -> int:
     """Writes the qlog of a netlog to standard output; the exit status."""
     try:
-        with decompressed(PROGRAM.opened(wanted)) as file:
-            streams.put("")
-            check(file)
-            netlog = looked_at(file)
-            netlog.write(lambda text, _: streams.write(text))
-            streams.put("")
+        netlog = converted(PROGRAM.opened(wanted))
+    except Changed as fault:
+        PROGRAM.complain(f"{name}: {fault}")
+        return FAILED
     except MemoryError:
         PROGRAM.complain(f"{name}: out of memory")
         return FAILED

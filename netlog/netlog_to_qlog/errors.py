@@ -12,5 +12,9 @@ class NoProgram(Unusable):
     """An input that can be read only by a program that is not installed."""
 
 
+class NoMemory(Unusable):
+    """An input that takes more memory than there is."""
+
+
 class Torn(Exception):
     """The input ends within a value."""

@@ -1,6 +1,7 @@
 """The results of many traces for CI systems: JUnit XML, SARIF, and annotations of GitHub."""
 
 import json
+import os
 from collections.abc import Callable
 from pathlib import Path
 from typing import Any
@@ -21,7 +22,7 @@ from .rules import (
     is_counted,
     requirement_of,
 )
-from .texts import count, visible
+from .texts import count, harmless, visible
 from .version import version
 from .violations import Violation
 
@@ -88,7 +89,7 @@ def junit(listed: Listed) -> str:
             "testcase",
             classname=NAME if stacks == OTHER else visible(stacks),
             name=visible(result.key),
-            file=visible(result.trace),
+            file=visible(result.file),
         )
         kind = outcome(listed, result, case)
         if kind:
@@ -150,9 +151,9 @@ def at(result: Result, line: int) -> str:
     """A line of a trace with the path of the file; of a log, the place in the log."""
     number = line_of(result, line)
     if number or not result.is_log:
-        return f"{result.trace}:{number}"
+        return f"{result.file}:{number}"
     place = result.places.get(line)
-    return f"{result.trace}: {place.text}" if place else result.trace
+    return f"{result.file}: {place.text}" if place else result.file
 
 
 def text_of(result: Result, violation: Violation) -> str:
@@ -252,7 +253,7 @@ def sarif_of(listed: Listed, result: Result, violation: Violation) -> dict[str, 
 
 def uri(path: str) -> str:
     """A path as a URI, relative if the path is."""
-    return Path(path).as_uri() if Path(path).is_absolute() else quote(path)
+    return Path(path).as_uri() if Path(path).is_absolute() else quote(os.fsencode(path))
 
 
 # Annotations.
@@ -263,21 +264,21 @@ def annotations(listed: Listed) -> str:
     lines = []
     for result in listed.results:
         if result.kind == FAILED:
-            lines.append(annotation("error", result.trace, 0, NAME, result.fault))
+            lines.append(annotation("error", result.file, 0, NAME, result.fault))
         for it in result.violations:
             level = NAMES_OF_LEVELS[listed.level_of(result, it)]
             title = f"{NAME} {it.with_level}"
             number, text = line_of(result, it.line), text_of(result, it)
-            lines.append(annotation(level, result.trace, number, title, text))
+            lines.append(annotation(level, result.file, number, title, text))
     return "".join(f"{line}\n" for line in lines)
 
 
 def annotation(level: str, path: str, line: int, title: str, text: str) -> str:
     """A command that shows a text at a line of a file."""
     place = f",line={line}" if line else ""
-    names = f"file={escaped(path, ANNOTATED_NAMES)}{place}"
-    title = escaped(visible(title), ANNOTATED_NAMES)
-    return f"::{level} {names},title={title}::{escaped(visible(text), ANNOTATED)}"
+    names = f"file={escaped(harmless(path), ANNOTATED_NAMES)}{place}"
+    title = escaped(harmless(title), ANNOTATED_NAMES)
+    return f"::{level} {names},title={title}::{escaped(harmless(text), ANNOTATED)}"
 
 
 def escaped(text: str, by: dict[str, str]) -> str:

@@ -13,8 +13,8 @@ from .failure import Failure, Status
 from .files import STANDARD_INPUT, STDIN, write
 from .page import Wanted, page_of
 from .pair import page_of_two
-from .streams import ended
-from .texts import visible
+from .streams import ended, say
+from .texts import harmless
 from .version import version
 
 DESCRIPTION = """\
@@ -35,7 +35,7 @@ class Parser(argparse.ArgumentParser):
     def error(self, message: str) -> NoReturn:
         """Ends the program."""
         self.print_usage(sys.stderr)
-        self.exit(Status.USAGE, f"{self.prog}: {visible(message)}\n")
+        self.exit(Status.USAGE, f"{self.prog}: {harmless(message)}\n")
 
     def _print_message(self, message: str, file: IO[str] | None = None) -> None:
         if file is sys.stderr:
@@ -114,7 +114,7 @@ def main() -> Status:
     try:
         write(given.output, text_of(given))
     except Failure as failure:
-        print(f"qaudit-page: {visible(str(failure))}", file=sys.stderr)
+        say("qaudit-page", str(failure))
         return failure.status
     return Status.WRITTEN
 

@@ -8,7 +8,7 @@ import subprocess
 from pathlib import Path
 from typing import IO, NamedTuple
 
-from .failure import Failure, Status
+from .failure import Failure, NoTraceError, Status
 from .files import MAX_INPUT, MAX_LINES, MAX_SHOWN
 from .program import PIECE, Running, ending_of, find
 from .texts import count, visible
@@ -34,14 +34,6 @@ class Asked(NamedTuple):
     program: Path | None = None
     options: tuple[str, ...] = ()
     is_shown: bool = False
-
-
-class NoTraceError(Failure):
-    """A log that gives no trace, with what the converter says of it."""
-
-    def __init__(self, name: str, reason: str) -> None:
-        super().__init__(f"{name}: {reason}", Status.UNSHOWN)
-        self.reason = reason
 
 
 class Told(NamedTuple):

@@ -1,21 +1,24 @@
 """Files that are read whole, and written whole or not at all."""
 
 import errno
+import io
 import os
 import tempfile
 from collections.abc import Iterator
 from pathlib import Path
 from typing import IO, BinaryIO, cast
 
-from .failure import Failure, Status
+from .failure import Failure, NoTraceError, Status, reason_of
 from .streams import put
-from .unpacking import NoProgram, Unusable, unpacked
+from .unpacking import NoMemory, NoProgram, Unusable, unpacked
 
 MAX_INPUT = 2**30
 # Of what a page shows, whose lines are all in memory.
 MAX_SHOWN = 2**28
 MAX_LINES = 2_000_000
 COPIED_AT_ONCE = 2**20
+# How the name of a file begins that will take the place of another.
+BESIDE = ".qaudit-"
 STANDARD_INPUT = "standard input"
 STDIN = 0
 
@@ -29,14 +32,6 @@ def as_text(path: Path | None) -> str:
     """A path as text, as it was given."""
     name = STANDARD_INPUT if path is None else str(path)
     return os.fsencode(name).decode("utf-8", "backslashreplace")
-
-
-def reason_of(fault: OSError) -> str:
-    """Why a file could not be used."""
-    if isinstance(fault, FileNotFoundError):
-        return "no such file"
-    text = fault.strerror or str(fault)
-    return text[:1].lower() + text[1:]
 
 
 def opened(path: Path | None) -> IO[bytes]:
@@ -96,12 +91,17 @@ def read(path: Path | None, *, is_shown: bool = False) -> bytes:
 
 def beginning(file: IO[bytes], name: str, most: int) -> bytes:
     """The first bytes of an open file, decompressed if they are compressed."""
+    held = io.BytesIO()
     try:
         with unpacked(cast(BinaryIO, file)) as plain:
-            return plain.read(most)
+            # By one `read` they would take as much memory as there may be of them.
+            while piece := plain.read(min(COPIED_AT_ONCE, most - held.tell())):
+                held.write(piece)
+            return held.getvalue()
+    except (NoMemory, NoProgram) as fault:
+        raise Failure(f"{name}: {fault}") from fault
     except Unusable as fault:
-        status = Status.FAULT if isinstance(fault, NoProgram) else Status.UNSHOWN
-        raise Failure(f"{name}: {fault}", status) from fault
+        raise NoTraceError(name, str(fault)) from fault
     except OSError as fault:
         raise Failure(f"cannot read {name}: {reason_of(fault)}") from fault
 
@@ -134,16 +134,20 @@ def write(path: Path | None, text: str) -> None:
 
 
 def replace(path: Path, data: bytes) -> None:
-    """Writes beside a file and takes its place, so that no half of it is ever seen."""
+    """Writes beside a file and takes its place, so that no half of it is ever seen. Of a link that
+    is the file to which it leads."""
     if path.exists() and not path.is_file():
         # A pipe or a device has no beside.
         path.write_bytes(data)
         return
-    handle, name = tempfile.mkstemp(prefix=f".{path.name[:64]}.", dir=path.parent)
+    path = Path(os.path.realpath(path))
+    handle, name = tempfile.mkstemp(prefix=BESIDE, dir=path.parent)
     beside = Path(name)
     try:
         with os.fdopen(handle, "wb") as file:
             file.write(data)
+            file.flush()
+            os.fsync(handle)
         mask = os.umask(0)
         os.umask(mask)
         beside.chmod(path.stat().st_mode if path.exists() else 0o666 & ~mask)

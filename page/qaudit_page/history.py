@@ -1,6 +1,7 @@
 """How verdicts went over several runs, say one a night: a table of the runs, and for each rule and
 each case a picture of how many traces came to what."""
 
+import os
 import re
 from collections import Counter
 from collections.abc import Callable, Iterable
@@ -9,6 +10,7 @@ from typing import NamedTuple
 
 from .failure import Failure
 from .files import as_text, name_of
+from .folders import Folder
 from .matrix import CLASSES, KINDS, Result, place_of, results_in
 from .texts import count, html, plural
 
@@ -36,13 +38,24 @@ class Night(NamedTuple):
         return {(it.key, it.told) for it in self.results if it.kind in BROKEN}
 
 
-def runs_in(folder: Path, but: Path | None) -> list[Night]:
+class Earlier(NamedTuple):
+    """The runs before this one, and what was passed over among them."""
+
+    nights: list[Night]
+    passed_over: list[str]
+
+
+def runs_in(folder: Path, but: Path | None) -> Earlier:
     """The runs whose results are in a folder, by the names of the files, but for one file."""
     if not folder.is_dir():
         raise Failure(f"{as_text(folder)} is no directory")
-    left_out = but.resolve() if but else None
-    files = sorted(it for it in folder.glob("*.json") if it.resolve() != left_out)
-    return [Night(name_of(it).removesuffix(".json"), results_in(it)[0]) for it in files]
+    looked = Folder(folder, lambda name: name.endswith(".json"), is_deep=False)
+    if not looked.is_whole:
+        raise Failure(looked.told[0])
+    left_out = os.path.realpath(but) if but else None
+    files = [it for it in looked.files if os.path.realpath(it) != left_out]
+    nights = [Night(name_of(it).removesuffix(".json"), results_in(it)[0]) for it in files]
+    return Earlier(nights, looked.told)
 
 
 # HTML.

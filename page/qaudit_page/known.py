@@ -6,7 +6,7 @@ from dataclasses import dataclass
 from pathlib import Path
 from typing import Any, NamedTuple
 
-from .failure import Failure
+from .failure import NO_RECORD, Failure
 from .files import as_text, read
 from .violations import Violation
 
@@ -90,6 +90,6 @@ def known_in(path: Path) -> set[Known]:
         if said["version"] != VERSION:
             raise ValueError("another version")
         return {Known(*(str(it[name]) for name in Known._fields)) for it in said["known"]}
-    except (ValueError, KeyError, TypeError) as fault:
+    except NO_RECORD as fault:
         text = f"{as_text(path)} is not what qaudit-matrix --write-known writes: {fault}"
         raise Failure(text) from fault

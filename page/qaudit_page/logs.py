@@ -9,12 +9,20 @@ from pathlib import Path
 from typing import IO, BinaryIO, cast
 
 from .conversion import object_of
-from .converter import Asked, NoTraceError, trace_of
-from .failure import Failure
-from .files import as_text, beginning, contents, opened_again, reason_of
+from .converter import Asked, trace_of
+from .failure import Failure, NoTraceError, reason_of
+from .files import as_text, beginning, contents, opened_again
 from .netlogs import Qlog
 from .texts import visible
-from .unpacking import Unusable, decompressed, is_netlog
+from .unpacking import (
+    Changed,
+    NoMemory,
+    NoProgram,
+    Unusable,
+    decompressed,
+    is_netlog,
+    unchanged,
+)
 
 # How the names of logs end.
 ENDINGS = (".qlog", ".sqlog", ".netlog", ".netlog.json")
@@ -53,12 +61,19 @@ class Taken:
 
 
 def taken(path: Path | None, asked: Asked) -> Taken:
-    """The trace of a file, or of standard input, which may be a log."""
+    """The trace of a file, or of standard input, which may be a log. It is opened once, and read
+    several times: none if it changes meanwhile."""
     name = as_text(path)
     with opened_again(path) as file:
-        if is_log(beginning(file, name, BEGINNING)):
-            return converted(file, name, asked)
-        return Taken(contents(file, name, is_shown=asked.is_shown))
+        try:
+            with unchanged(file):
+                if is_log(beginning(file, name, BEGINNING)):
+                    return converted(file, name, asked)
+                return Taken(contents(file, name, is_shown=asked.is_shown))
+        except Changed as fault:
+            raise Failure(f"{name}: {fault}") from fault
+        except OSError as fault:
+            raise Failure(f"cannot read {name}: {reason_of(fault)}") from fault
 
 
 def is_log(first: bytes) -> bool:
@@ -83,6 +98,8 @@ def converted(file: IO[bytes], name: str, asked: Asked) -> Taken:
             if is_netlog(log.read(BEGINNING)):
                 return converted_netlog(log, name, asked)
             data, told = trace_of(log, name, asked)
+    except (NoMemory, NoProgram) as fault:
+        raise Failure(f"{name}: {fault}") from fault
     except Unusable as fault:
         raise NoTraceError(name, visible(str(fault))) from fault
     except OSError as fault:

@@ -11,8 +11,8 @@ from urllib.parse import quote
 
 from .banner import AMBER, MARKS
 from .conversion import FIRST_LINES, notes_of, object_of
-from .converter import Asked, NoTraceError
-from .failure import Failure
+from .converter import Asked
+from .failure import NO_RECORD, Failure, NoTraceError, Status, why
 from .files import as_text, read, write
 from .grounds import Basis, Ground, basis_of
 from .library import resource
@@ -74,9 +74,12 @@ class Result:
     requirement: str = ""
     # Where its page lies.
     page: str = ""
+    # Whether a page of it was asked for, and could not be made or written.
+    is_page_lost: bool = False
     # Whether it is refused, and the conversion of its log may be the cause.
     is_doubtful: bool = False
-    # The path of the trace, and every violation in it, if they were asked for.
+    # The path of the trace, as the system has it, and every violation in it, if they were asked
+    # for.
     trace: str = ""
     violations: tuple[Violation, ...] = ()
     # What an accepted verdict rests on, and whether that is more than RFC 9002 leaves to a sender.
@@ -88,6 +91,11 @@ class Result:
     log_lacks: tuple[str, ...] = ()
     log_notes: tuple[str, ...] = ()
     places: dict[int, Place] = field(default_factory=dict)
+
+    @property
+    def file(self) -> str:
+        """The path of the trace as text."""
+        return as_text(Path(self.trace))
 
     @property
     def place(self) -> str:
@@ -124,17 +132,22 @@ class Job:
     is_whole: bool = False
     # How a log is converted.
     asked: Asked = Asked()
+    # Whether it was found in a directory, where a pipe is not waited for.
+    is_found: bool = False
 
 
 def judged(job: Job) -> Result:
     """Audits a trace, and writes its page where one is asked for."""
     try:
+        if job.is_found:
+            check_is_file(job.trace, "open")
         found = looked_at(job) if job.page is None else shown_on(job, job.page)
         violations = violations_of(found.verdict) if job.is_whole else ()
     except NoTraceError as failure:
         return unconverted(job, failure)
-    except Failure as failure:
-        return unshown(job, failure)
+    except Exception as fault:
+        # It costs this trace, and not the others.
+        return unshown(job, fault)
     verdict, basis = found.verdict, found.basis
     is_accepted = verdict.kind == ACCEPTED
     grounds = basis.grounds if is_accepted else ()
@@ -148,7 +161,7 @@ def judged(job: Job) -> Result:
         requirement=requirement_of(verdict.said),
         page=str(job.page or ""),
         is_doubtful=verdict.kind == "refused" and bool(found.notes),
-        trace=as_text(job.trace),
+        trace=str(job.trace),
         violations=violations,
         grounds=grounds,
         with_allowances=is_accepted and basis.is_amber,
@@ -157,6 +170,12 @@ def judged(job: Job) -> Result:
         log_notes=found.taken.told,
         places=places_of(found.taken.data, lines),
     )
+
+
+def check_is_file(path: Path, verb: str) -> None:
+    """Failure if a path is one of something that is no file, as it may have become meanwhile."""
+    if path.exists() and not path.is_file():
+        raise Failure(f"cannot {verb} {as_text(path)}: it is no regular file")
 
 
 @dataclass(frozen=True)
@@ -188,6 +207,7 @@ def looked_at(job: Job) -> Found:
 
 def shown_on(job: Job, page: Path) -> Found:
     """What a trace comes to whose page is written."""
+    check_is_file(page, "write")
     # Other traces have the other processors.
     asked = job.asked._replace(is_shown=True)
     wanted = Wanted(job.trace, job.program, job.dygraphs, job.key, readers=0, asked=asked)
@@ -196,12 +216,16 @@ def shown_on(job: Job, page: Path) -> Found:
     return Found(made.verdict, made.basis, made.notes, made.taken)
 
 
-def unshown(job: Job, failure: Failure) -> Result:
+def unshown(job: Job, fault: Exception) -> Result:
     """What became of a trace that has no page: its verdict, where there is one."""
     if job.page is None:
-        return Result(job.key, FAILED, fault=str(failure), trace=as_text(job.trace))
+        return Result(job.key, FAILED, fault=why(fault), trace=str(job.trace))
     found = judged(replace(job, page=None))
-    return replace(found, fault=found.fault or f"no page: {failure}")
+    if found.fault:
+        return found
+    # One that is more than a page takes has none; else something failed.
+    is_lost = not isinstance(fault, Failure) or fault.status == Status.FAULT
+    return replace(found, fault=f"no page: {why(fault)}", is_page_lost=is_lost)
 
 
 def unconverted(job: Job, failure: NoTraceError) -> Result:
@@ -213,7 +237,7 @@ def unconverted(job: Job, failure: NoTraceError) -> Result:
         rule=violation.rule,
         name=violation.name,
         fault=failure.reason,
-        trace=as_text(job.trace),
+        trace=str(job.trace),
         violations=(violation,) if job.is_whole else (),
         is_log=True,
     )
@@ -322,7 +346,12 @@ def told_before(path: Path) -> Before:
     """The verdicts of a run before."""
     results, lacking = results_in(path)
     unclear = lacking & {it.key for it in results if it.kind == ACCEPTED}
-    return Before({it.key: it.told for it in results}, frozenset(unclear))
+    told: dict[str, set[str]] = {}
+    for it in results:
+        told.setdefault(it.key, set()).add(it.told)
+    # A key that an older version gave to two traces says nothing of either.
+    once = {key: next(iter(said)) for key, said in told.items() if len(said) == 1}
+    return Before(once, frozenset(unclear))
 
 
 def results_in(path: Path) -> tuple[list[Result], set[str]]:
@@ -334,7 +363,7 @@ def results_in(path: Path) -> tuple[list[Result], set[str]]:
             raise ValueError("another version")
         results = [result_of(it) for it in said["traces"]]
         return results, {it["key"] for it in said["traces"] if "with_allowances" not in it}
-    except (ValueError, KeyError, TypeError, AttributeError, RecursionError) as fault:
+    except NO_RECORD as fault:
         text = f"{as_text(path)} is not what qaudit-matrix --json writes: {fault}"
         raise Failure(text) from fault
 

@@ -4,11 +4,9 @@ import argparse
 import os
 import re
 import sys
-from collections import Counter
 from collections.abc import Iterable, Iterator
-from concurrent.futures.process import BrokenProcessPool
 from pathlib import Path
-from typing import NoReturn
+from typing import NoReturn, TypeVar
 
 from . import logs
 from .ci import Listed, annotations, junit, sarif
@@ -16,7 +14,7 @@ from .command import Parser, add_shared, interrupted
 from .converter import Asked, check
 from .failure import Failure, Status
 from .files import as_text, reason_of, write
-from .history import Night, history, runs_in
+from .history import Earlier, Night, history, runs_in
 from .known import Known, Seen, compared, known_by, known_in
 from .known import written as known_text
 from .library import dygraphs
@@ -29,7 +27,6 @@ from .matrix import (
     Result,
     changes_of,
     changes_shown,
-    judged,
     pattern,
     place_of,
     recorded,
@@ -37,11 +34,12 @@ from .matrix import (
     told_before,
     unclear_note,
 )
+from .pool import Pool
 from .program import find
 from .rules import ANY, FAIL_ON, is_counted
 from .search import Search
-from .streams import ended, workers_of
-from .texts import plural, visible
+from .streams import ended, say
+from .texts import count, plural
 
 DESCRIPTION = """\
 Audits many traces and logs, and writes an HTML table of their verdicts to standard output. In a
@@ -49,17 +47,21 @@ directory it finds each file, at any depth, that ends in .trace, .qlog, .sqlog, 
 .netlog.json, and with .gz, .xz or .zst after that. A log beside its own trace (x.sqlog and x.trace)
 is left out: the trace counts. Logs are converted by qlog-to-trace."""
 ENDING = """\
-The exit status is 0 if all are accepted, 1 if one is refused, 2 if one cannot be read, 3 if a file
-or a program is missing or failed, and 64 if the arguments are wrong. With --against it is 0 if
-nothing is refused that was not before, and 1 if something is, or by another rule. With --known it
-is 0 if every violation is known, and 1 if one is new. With --fail-on must or should violations of
-what the RFC says more weakly are shown, but do not make it 1."""
+The exit status is 0 if all are accepted, 1 if one is refused, 2 if one cannot be read, 3 if a file,
+a directory, a page or a program failed, and 64 if the arguments are wrong. With --against it is 0
+if nothing is refused that was not before, and 1 if something is, or by another rule. With --known
+it is 0 if every violation is known, and 1 if one is new. With --fail-on must or should violations
+of what the RFC says more weakly are shown, but do not make it 1."""
+NAME = "qaudit-matrix"
 WIDTH = 40
+# Of what is passed over, and of pages that are not written, so many have a line.
+MOST_SAID = 20
 # How many processes may be started for each processor.
 MOST_A_CORE = 4
 # What this run is called among earlier ones, if it has no file.
 THIS_RUN = "this run"
 BAD_IN_NAMES = re.compile(r"[^A-Za-z0-9._-]+")
+T = TypeVar("T")
 
 
 def a_pattern(text: str) -> re.Pattern[str]:
@@ -72,7 +74,7 @@ def a_pattern(text: str) -> re.Pattern[str]:
 
 def arguments() -> argparse.Namespace:
     """What the command is told."""
-    parser = Parser(prog="qaudit-matrix", description=DESCRIPTION, epilog=ENDING)
+    parser = Parser(prog=NAME, description=DESCRIPTION, epilog=ENDING)
     text = (
         "how traces are named without .trace or .sqlog, such as CLIENT_SERVER_CASE: CASE makes the"
         " rows"
@@ -129,28 +131,44 @@ def is_whole(given: argparse.Namespace) -> bool:
     return bool(is_for_ci or given.fail_on != ANY)
 
 
+class Free:
+    """Names, each of which is given once. The first that wants one of those that are kept has it
+    as it is."""
+
+    def __init__(self, kept: Iterable[str]) -> None:
+        self._kept, self._given = set(kept), set[str]()
+        # With which number a name is tried next.
+        self._next: dict[str, int] = {}
+
+    def name(self, wanted: str, numbered: str) -> str:
+        """The name that is wanted, or else that with a number."""
+        found, number = wanted, self._next.get(wanted, 2)
+        while found in self._given or (found in self._kept and found != wanted):
+            found, number = numbered.format(wanted, number), number + 1
+        self._next[wanted] = number
+        self._given.add(found)
+        return found
+
+
 def jobs_of(given: argparse.Namespace, search: Search) -> list[Job]:
     """A job for each trace; no two have one key or one page."""
-    keys: Counter[str] = Counter()
-    pages: Counter[str] = Counter()
-    jobs = []
+    # A name that a file has is never the key of another one that has to be told from its like.
+    keys, pages = Free(name for _, name in search.found), Free([])
+    jobs, named = [], set(given.traces)
     for trace, name in search.found:
-        keys[name] += 1
-        key = name if keys[name] == 1 else f"{name} ({keys[name]})"
-        page = None
+        key, page = keys.name(name, "{} ({})"), None
         if given.pages:
             plain = BAD_IN_NAMES.sub("-", name).strip("-.")[:150] or "trace"
-            pages[plain] += 1
-            again = "" if pages[plain] == 1 else f"-{pages[plain]}"
-            page = given.pages / f"{plain}{again}.html"
+            page = given.pages / f"{pages.name(plain, '{}-{}')}.html"
         asked = Asked(given.converter, given.convert)
-        job = Job(trace, key, page, given.program, given.dygraphs, is_whole(given), asked)
+        is_found = trace not in named
+        job = Job(trace, key, page, given.program, given.dygraphs, is_whole(given), asked, is_found)
         jobs.append(job)
     return jobs
 
 
-def shown(results: Iterable[Result], total: int) -> Iterator[Result]:
-    """The results, and on a terminal a bar of how far they are."""
+def shown(results: Iterable[T], total: int) -> Iterator[T]:
+    """The results as they come, and on a terminal a bar of how far they are."""
     is_shown = sys.stderr.isatty()
     try:
         for place, result in enumerate(results, 1):
@@ -164,12 +182,7 @@ def shown(results: Iterable[Result], total: int) -> Iterator[Result]:
             print(file=sys.stderr)
 
 
-def all_judged(jobs: list[Job]) -> list[Result]:
-    """What became of some traces."""
-    return [judged(job) for job in jobs]
-
-
-def results_of(given: argparse.Namespace) -> list[Result]:
+def results_of(given: argparse.Namespace, search: Search) -> list[Result]:
     """What became of each trace."""
     find(given.program)
     check(Asked(given.converter, given.convert))
@@ -180,25 +193,13 @@ def results_of(given: argparse.Namespace) -> list[Result]:
         except OSError as fault:
             text = f"cannot make {as_text(given.pages)}: {reason_of(fault)}"
             raise Failure(text) from fault
-    search = Search(given.traces)
     jobs = jobs_of(given, search)
     if not jobs:
         endings = ", ".join(logs.ENDINGS)
         raise Failure(f"there is no trace: no file in the directories ends in .trace, {endings}")
-    if search.note:
-        print(f"qaudit-matrix: {visible(search.note)}", file=sys.stderr)
-    pieces = max(1, min(8, len(jobs) // 40))
-    count = workers(given.jobs, len(jobs))
-    try:
-        with workers_of(count) as pool:
-            # Not by `pool.map`, which cancels what is left while a thread may be setting it.
-            parts = [
-                pool.submit(all_judged, jobs[first : first + pieces])
-                for first in range(0, len(jobs), pieces)
-            ]
-            return list(shown((it for part in parts for it in part.result()), len(jobs)))
-    except BrokenProcessPool as fault:
-        raise Failure("a process of the audit was killed: is there memory enough?") from fault
+    pool = Pool(jobs, workers(given.jobs, len(jobs)))
+    found = dict(shown(pool.results(), len(jobs)))
+    return [found[place] for place in range(len(jobs))]
 
 
 def is_failure(result: Result, fail_on: str) -> bool:
@@ -233,9 +234,18 @@ def tell(changes: list[Change], before: Before) -> None:
     allowances or without, and one if the run before does not say that."""
     for it in changes:
         if it.is_told:
-            print(visible(it.text), file=sys.stderr)
+            say(NAME, it.text)
     if before.unclear:
-        print(f"qaudit-matrix: {unclear_note(before)}", file=sys.stderr)
+        say(NAME, unclear_note(before))
+
+
+def say_some(lines: Iterable[str]) -> None:
+    """Lines on standard error, of many the first ones."""
+    told = list(lines)
+    for line in told[:MOST_SAID]:
+        say(NAME, line)
+    if len(told) > MOST_SAID:
+        say(NAME, f"and {count(len(told) - MOST_SAID)} more like the line before")
 
 
 class Ci:
@@ -278,8 +288,17 @@ class Ci:
             return None
         found = compared(seen, map(self.place, results), self.known)
         for line in found.lines():
-            print(visible(line), file=sys.stderr)
+            say(NAME, line)
         return found.new
+
+
+def searched(given: argparse.Namespace) -> Search:
+    """What there is to audit, with a line on standard error for what is passed over."""
+    search = Search(given.traces)
+    say_some(search.passed_over)
+    if search.note:
+        say(NAME, search.note)
+    return search
 
 
 def main() -> Status:
@@ -288,9 +307,10 @@ def main() -> Status:
     changes, since = None, ""
     try:
         before = told_before(given.against) if given.against else None
-        earlier = runs_in(given.history, given.json) if given.history else []
-        ci = Ci(given)
-        results = results_of(given)
+        earlier = runs_in(given.history, given.json) if given.history else Earlier([], [])
+        say_some(earlier.passed_over)
+        ci, search = Ci(given), searched(given)
+        results = results_of(given, search)
         if before is not None:
             changes = changes_of(results, before)
             since = changes_shown(changes, before)
@@ -298,23 +318,27 @@ def main() -> Status:
         nights = ""
         if given.history:
             name = given.json.stem if given.json else THIS_RUN
-            nights = history([*earlier, Night(name, results)], given.pattern)
+            nights = history([*earlier.nights, Night(name, results)], given.pattern)
         write(given.output, table(results, given.pattern, beside, since, nights))
         if given.json:
             write(given.json, recorded(results, given.pattern))
         new = ci.write(results)
     except Failure as failure:
-        print(f"qaudit-matrix: {visible(str(failure))}", file=sys.stderr)
+        say(NAME, str(failure))
         return failure.status
     if before is not None:
         tell(changes or [], before)
+    lost = [it for it in results if it.is_page_lost]
+    say_some(f"{it.file}: {it.fault}" for it in lost)
+    if lost or not search.is_whole:
+        return Status.FAULT
     return status_of(results, changes, new, given.fail_on)
 
 
 def program() -> NoReturn:
     """Runs the command and ends."""
     try:
-        status = ended("qaudit-matrix", main)
+        status = ended(NAME, main)
     except KeyboardInterrupt:
         interrupted()
     sys.exit(status)  # type: ignore[arg-type]

@@ -6,8 +6,7 @@ from pathlib import Path
 from typing import NamedTuple
 
 from .alignment import Alignment, End, alignment_of, are_both_ends
-from .converter import NoTraceError
-from .failure import Failure
+from .failure import Failure, NoTraceError
 from .files import as_text, name_of
 from .library import dygraphs, licence, resource, script_of_pair
 from .page import Told, Wanted, html_of_lines, told_of

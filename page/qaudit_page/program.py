@@ -1,5 +1,6 @@
 """What the program qaudit-why says of a trace: its verdict with the facts, and its rows."""
 
+import contextlib
 import json
 import os
 import shutil
@@ -11,7 +12,7 @@ from dataclasses import dataclass
 from pathlib import Path
 from typing import IO, Any, NamedTuple, Self
 
-from .failure import Failure
+from .failure import Failure, reason_of
 
 NAME = "qaudit-why"
 VERDICTS = ("accepted", "refused", "unreadable")
@@ -99,6 +100,27 @@ def find(given: Path | None, name: str = NAME, option: str = "--program") -> str
     return found
 
 
+def temporary(data: bytes = b"") -> IO[bytes]:
+    """A temporary file that has this, to be read from its beginning."""
+    try:
+        file: IO[bytes] = tempfile.TemporaryFile()
+        try:
+            file.write(data)
+            file.seek(0)
+        except BaseException:
+            discard(file)
+            raise
+    except OSError as fault:
+        raise Failure(f"cannot write a temporary file: {reason_of(fault)}") from fault
+    return file
+
+
+def discard(file: IO[bytes]) -> None:
+    """Closes a file that does not take what it holds."""
+    with contextlib.suppress(OSError):
+        file.close()
+
+
 class Running:
     """A program whose output is read. If that ends before its time, so does the program."""
 
@@ -106,7 +128,7 @@ class Running:
         self, words: Sequence[str], stdin: IO[bytes] | int, passed: tuple[int, ...] = ()
     ) -> None:
         self.program = words[0]
-        self._errors: IO[bytes] = tempfile.TemporaryFile()
+        self._errors: IO[bytes] = temporary()
         try:
             self.process = subprocess.Popen(
                 words, stdin=stdin, stdout=subprocess.PIPE, stderr=self._errors, pass_fds=passed
@@ -147,9 +169,7 @@ class Run(Running):
 
     def __init__(self, program: str, options: tuple[str, ...], data: bytes) -> None:
         self.options = " ".join(options)
-        with tempfile.TemporaryFile() as file:
-            file.write(data)
-            file.seek(0)
+        with temporary(data) as file:
             super().__init__([program, *options, "-"], file)
 
     def pieces(self) -> Iterator[bytes]:

@@ -7,6 +7,7 @@ from typing import NamedTuple
 
 from . import logs
 from .files import as_text, name_of
+from .folders import Folder
 
 ENDING = ".trace"
 # How the names of compressed files end.
@@ -36,6 +37,9 @@ class Search:
     def __init__(self, given: Iterable[Path]) -> None:
         self.found: list[tuple[Path, str]] = []
         self.left_out: list[LeftOut] = []
+        # What is passed over in directories, and whether all that may be there was found.
+        self.passed_over: list[str] = []
+        self.is_whole = True
         for path in given:
             if os.path.isdir(path):
                 self._look_into(path)
@@ -44,8 +48,10 @@ class Search:
 
     def _look_into(self, folder: Path) -> None:
         """Takes what is in a directory, but for logs whose traces are there."""
-        files = files_in(folder)
-        left_out = left_out_of(files)
+        looked = Folder(folder, lambda name: name.endswith(FOUND), is_deep=True)
+        files, left_out = looked.files, left_out_of(looked.files)
+        self.passed_over += looked.told
+        self.is_whole = self.is_whole and looked.is_whole
         without = {it.log for it in left_out}
         self.left_out += left_out
         self.found += [
@@ -61,12 +67,6 @@ class Search:
         log, trace = as_text(newer[0].log), as_text(newer[0].trace)
         told = f"{trace} is audited, and not {log}, which is newer: remove the trace to have it"
         return f"{told} audited" + (f" (and {len(newer) - 1} more)" if len(newer) > 1 else "")
-
-
-def files_in(folder: Path) -> list[Path]:
-    """The traces and logs in a directory, at any depth."""
-    walked = os.walk(folder)
-    return sorted(Path(at, it) for at, _, names in walked for it in names if it.endswith(FOUND))
 
 
 def left_out_of(files: Iterable[Path]) -> list[LeftOut]:

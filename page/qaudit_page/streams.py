@@ -10,13 +10,13 @@ import signal
 import sys
 from collections.abc import Callable, Iterator
 from concurrent.futures import Future, ProcessPoolExecutor
-from contextlib import contextmanager
+from contextlib import contextmanager, suppress
 from mmap import mmap
 from threading import Thread
 from typing import TextIO
 
-from .failure import Failure, Status
-from .texts import visible
+from .failure import Failure, Status, why
+from .texts import harmless
 
 OUTPUT, ERRORS = 1, 2
 # Of linux/prctl.h.
@@ -154,11 +154,20 @@ def workers_of(count: int, shared: mmap | None = None) -> Iterator[ProcessPoolEx
             worker.kill()
         raise
     finally:
-        pool.shutdown(cancel_futures=True)
+        # Of one whose thread could not start this fails too, and what it says tells less.
+        with suppress(RuntimeError):
+            pool.shutdown(cancel_futures=True)
+
+
+def say(name: str, text: str) -> None:
+    """A line of the command of this name on standard error."""
+    print(f"{name}: {harmless(text)}", file=sys.stderr)
 
 
 def ended(name: str, main: Callable[[], Status]) -> object:
     """The exit status of a command, whose failures are told."""
+    if signal.getsignal(signal.SIGINT) is signal.SIG_DFL:
+        signal.signal(signal.SIGINT, signal.default_int_handler)
     is_open = sys.stderr is not None
     fill_closed()
     sys.stderr = Messages(sys.stderr if is_open else open(os.devnull, "w"))  # type: ignore
@@ -166,9 +175,7 @@ def ended(name: str, main: Callable[[], Status]) -> object:
         return main()
     except SystemExit as end:
         return end.code
-    except Failure as failure:
-        why, status = str(failure), failure.status
-    except MemoryError:
-        why, status = "out of memory", Status.FAULT
-    print(f"{name}: {visible(why)}", file=sys.stderr)
-    return status
+    except Exception as fault:
+        failure = fault
+    say(name, why(failure))
+    return failure.status if isinstance(failure, Failure) else Status.FAULT

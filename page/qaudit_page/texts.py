@@ -65,6 +65,12 @@ def visible(text: str) -> str:
     )
 
 
+def harmless(text: str) -> str:
+    """Text for a line that a CI system may read, in which nothing begins what it takes for a
+    command: `##` does in any place, `::` only at the beginning of a line."""
+    return visible(text).replace("##", "#\\u{23}")
+
+
 def html(text: str) -> str:
     """Text of others as HTML, in an element or in an attribute with quotes."""
     return escape(visible(text), quote=True)

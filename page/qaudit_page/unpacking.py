@@ -10,7 +10,18 @@ if find_spec("netlog_to_qlog") is None:
     sys.path.append(str(Path(__file__).resolve().parents[2] / "netlog"))
 
 from netlog_to_qlog.compressed import decompressed, unpacked  # noqa: E402
-from netlog_to_qlog.errors import NoProgram, Unusable  # noqa: E402
+from netlog_to_qlog.errors import NoMemory, NoProgram, Unusable  # noqa: E402
 from netlog_to_qlog.netlog import is_netlog, looked_at  # noqa: E402
+from netlog_to_qlog.unchanged import Changed, unchanged  # noqa: E402
 
-__all__ = ["NoProgram", "Unusable", "decompressed", "is_netlog", "looked_at", "unpacked"]
+__all__ = [
+    "Changed",
+    "NoMemory",
+    "NoProgram",
+    "Unusable",
+    "decompressed",
+    "is_netlog",
+    "looked_at",
+    "unchanged",
+    "unpacked",
+]

@@ -78,13 +78,17 @@ class Parts(unittest.TestCase):
     def test_annotations_cannot_be_broken_out_of(self) -> None:
         told = annotation("error", "a:b,c%\n", 3, "t:u,v", "100%\n::error::x")
         wanted = (
-            "::error file=a%3Ab%2Cc%25%0A,line=3,title=t%3Au%2Cv::100%25\\u{a}::error::x"
+            "::error file=a%3Ab%2Cc%25\\u{a},line=3,title=t%3Au%2Cv::100%25\\u{a}::error::x"
         )
         self.assertEqual(told, wanted)
 
     def test_uris(self) -> None:
         self.assertEqual(uri("a b/#.trace"), "a%20b/%23.trace")
         self.assertEqual(uri("/a b"), "file:///a%20b")
+        # A byte that is no UTF-8, and the text that it is shown as.
+        self.assertEqual(uri(os.fsdecode(b"\xff")), "%FF")
+        self.assertEqual(uri(os.fsdecode(b"/\xff")), "file:///%FF")
+        self.assertEqual(uri("\\xff"), "%5Cxff")
 
 
 class Files(unittest.TestCase):
@@ -144,14 +148,13 @@ class Files(unittest.TestCase):
         shutil.copyfile(SEVERAL, self.traces / "quinn_quic-go_loss.trace")
         ended = self.run_command("--known", "known.json")
         self.assertEqual(ended.returncode, 1)
-        self.assertEqual(
-            ended.stderr.splitlines(),
-            [
-                "quinn_quic-go_loss: new violation V7 past-window, line 13",
-                "quinn_quic-go_loss: new violation V13 timer-early, line 24",
-                "loss (quinn \u2192 quic-go): V6 number-not-higher is known, and not seen any more",
-            ],
-        )
+        wanted = [
+            "quinn_quic-go_loss: new violation V7 past-window, line 13",
+            "quinn_quic-go_loss: new violation V13 timer-early, line 24",
+            "loss (quinn \u2192 quic-go): V6 number-not-higher is known, and not seen any more",
+        ]
+        told = ended.stderr.splitlines()
+        self.assertEqual(told, [f"qaudit-matrix: {line}" for line in wanted])
 
     def test_what_is_gone_is_told_and_does_not_fail(self) -> None:
         self.run_command("--known", "known.json", "--write-known")
@@ -406,7 +409,7 @@ class Recipes(unittest.TestCase):
         (self.folder / "logs" / "bad.sqlog").write_bytes(b'{"traces":[]}')
         ended = self.run_script(audit)
         self.assertEqual(ended.returncode, 1)
-        self.assertEqual(ended.stderr, "bad: new violation log not-converted\n")
+        self.assertEqual(ended.stderr, "qaudit-matrix: bad: new violation log not-converted\n")
 
     def test_no_logs(self) -> None:
         (self.folder / "empty").mkdir()

@@ -34,8 +34,8 @@ from tests.test_input import NO_ZSTD, zstd
 
 from qaudit_page import converter, logs
 from qaudit_page.alignment import End, alignment_of
-from qaudit_page.converter import Asked, NoTraceError, check, options_of
-from qaudit_page.failure import Failure, Status
+from qaudit_page.converter import Asked, check, options_of
+from qaudit_page.failure import Failure, NoTraceError, Status
 from qaudit_page.lenient import SPACES
 from qaudit_page.page import audited
 from qaudit_page.places import Place, place_of, places_of
@@ -596,7 +596,7 @@ class Tables(InFolder):
         self.run_command("--known", "known.json", status=0)
         (self.logs / "none.qlog").write_bytes(b'{"traces":[]}')
         told = self.run_command("--known", "known.json", status=1)
-        self.assertEqual(told, "none: new violation log not-converted\n")
+        self.assertEqual(told, "qaudit-matrix: none: new violation log not-converted\n")
 
     def test_places_of_bytes(self) -> None:
         records = json.dumps([left(0, 0), left(1, 0)])

@@ -225,7 +225,7 @@ class Tables(unittest.TestCase):
         ended = self.run_command("--against", self.json)
         self.assertEqual(ended.returncode, 1)
         wanted = "quinn_ngtcp2_loss: refused V6 number-not-higher, before accepted\n"
-        self.assertEqual(ended.stderr, wanted)
+        self.assertEqual(ended.stderr, f"qaudit-matrix: {wanted}")
         changes = Page(self.table.read_text()).by_id["changes"]
         self.assertIn("1 trace newly refused or by another rule, 1 other", changes)
         (self.traces / "quinn_ngtcp2_loss.trace").unlink()
@@ -294,8 +294,8 @@ class Tables(unittest.TestCase):
         ended = self.run_command("--against", self.json)
         self.assertEqual(ended.returncode, 0)
         told = [
-            f"quinn_ngtcp2_loss: {ALLOWED}, before accepted\n",
-            f"silence-past-a-pto: accepted, before {ALLOWED}\n",
+            f"qaudit-matrix: quinn_ngtcp2_loss: {ALLOWED}, before accepted\n",
+            f"qaudit-matrix: silence-past-a-pto: accepted, before {ALLOWED}\n",
         ]
         self.assertEqual(ended.stderr, "".join(told))
         changes = Page(self.table.read_text()).by_id["changes"]
@@ -320,7 +320,8 @@ class Tables(unittest.TestCase):
         ended = self.run_command("--against", self.json)
         self.assertEqual(ended.returncode, 1)
         worse = "silence-past-a-pto: refused V6 number-not-higher, before accepted\n"
-        self.assertEqual(ended.stderr, f"{worse}qaudit-matrix: {note}\n")
+        told = f"qaudit-matrix: {worse}qaudit-matrix: {note}\n"
+        self.assertEqual(ended.stderr, told)
 
     def test_a_terminal_shows_how_far_it_is(self) -> None:
         main, other = pty.openpty()
