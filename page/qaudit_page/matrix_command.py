@@ -12,8 +12,8 @@ from . import logs
 from .ci import Listed, annotations, junit, sarif
 from .command import Parser, add_shared, interrupted
 from .converter import Asked, check
-from .failure import Failure, Status
-from .files import as_text, reason_of, write
+from .failure import Failure, Status, reason_of
+from .files import as_text, write
 from .history import Earlier, Night, history, runs_in
 from .known import Known, Seen, compared, known_by, known_in
 from .known import written as known_text
