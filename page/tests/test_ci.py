@@ -148,13 +148,13 @@ class Files(unittest.TestCase):
         shutil.copyfile(SEVERAL, self.traces / "quinn_quic-go_loss.trace")
         ended = self.run_command("--known", "known.json")
         self.assertEqual(ended.returncode, 1)
-        wanted = [
+        lines = [
             "quinn_quic-go_loss: new violation V7 past-window, line 13",
             "quinn_quic-go_loss: new violation V13 timer-early, line 24",
             "loss (quinn \u2192 quic-go): V6 number-not-higher is known, and not seen any more",
         ]
         told = ended.stderr.splitlines()
-        self.assertEqual(told, [f"qaudit-matrix: {line}" for line in wanted])
+        self.assertEqual(told, [f"qaudit-matrix: {line}" for line in lines])
 
     def test_what_is_gone_is_told_and_does_not_fail(self) -> None:
         self.run_command("--known", "known.json", "--write-known")

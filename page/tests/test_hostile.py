@@ -369,8 +369,8 @@ class Folders(Tables):
         (self.logs / "file.trace").symlink_to("../real/bad.trace")
         (self.logs / "again").symlink_to(".")
         (self.logs / "loop").symlink_to("loop")
-        told = "is passed over: it is a link to a folder"
-        told = [f"logs/again {told}", f"logs/latest {told} elsewhere, which you can name too"]
+        over = "is passed over: it is a link to a folder"
+        told = [f"logs/again {over}", f"logs/latest {over} elsewhere, which you can name too"]
         self.check(self.run_command(), 3, *told)
         self.assertEqual(self.kinds(), {"file": "refused", "good": "accepted"})
         # What it leads to is audited in its own place.
