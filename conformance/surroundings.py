@@ -238,12 +238,20 @@ class Tries(NamedTuple):
         if self.program.is_python:
             # Python itself does not start, and says so in its own words.
             yield Case("little-memory", given, None, None, b"", TOO_LITTLE_FOR_PYTHON)
-            large, _ = LARGE.get(given, ("large", ""))
-            named = f"{large}: " if given in LARGE else ""
-            says = self.program.says(f"{named}out of memory")
-            yield Case("out-of-memory", large, 3, says, b"", LITTLE_OF_PYTHON)
+            yield self.of_large_file()
         else:
             yield Case("little-memory", given, 0, b"", usual, LITTLE)
+
+    def of_large_file(self) -> Case:
+        """A program in Python has too little memory for a file. What makes a table of many has
+        one: such a file costs itself, and not the table."""
+        given = self.program.input
+        large, _ = LARGE.get(given, ("large", ""))
+        if self.program.takes_several:
+            return Case("out-of-memory", large, 3, b"", None, LITTLE_OF_PYTHON)
+        named = f"{large}: " if given in LARGE else ""
+        says = self.program.says(f"{named}out of memory")
+        return Case("out-of-memory", large, 3, says, b"", LITTLE_OF_PYTHON)
 
     def failure_of(self, case: Case) -> str:
         """How a command differs."""
